@@ -1,0 +1,5 @@
+pub mod Pick
+pub mod Least
+pub mod Round
+pub mod Said
+pub mod Settles

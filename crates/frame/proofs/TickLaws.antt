@@ -1,0 +1,44 @@
+-- The tick's numbers as upper crates use them.
+-- Assumes nothing.
+use mathlib.Core.Path.{_≡_, refl, sym, _∙_}
+use mathlib.Core.Bool.{true}
+use Prim.Native.Nat.{ℕ, _+_, _≤_}
+use native.Mathlib.Omega.{arith}
+use lib.Dec.{leb}
+use borrow.Author.Tests.{le-leb, leb-true}
+use Rattle.base.proofs.Tests.{same-test}
+use Rattle.frame.specs.Tick.{perMs, perByte, sendBase, sendLimit, sendsInTime}
+use Rattle.frame.specs.declared.Speed.{Speed}
+use Rattle.frame.specs.declared.Speed.the-variants.{Mbit100, Mbit10}
+
+pub per-ms-is : perMs ≡ 12500
+unfolding perMs
+per-ms-is = refl
+
+-- ---- a byte
+pub per-byte-at-100 : perByte Mbit100 ≡ 1
+unfolding perByte
+per-byte-at-100 = refl
+
+pub per-byte-at-10 : perByte Mbit10 ≡ 10
+unfolding perByte
+per-byte-at-10 = refl
+
+pub per-byte-least : (s : Speed) → 1 ≤ perByte s
+per-byte-least Mbit100 = omega (arith, per-byte-at-100)
+per-byte-least Mbit10 = omega (arith, per-byte-at-10)
+
+pub per-byte-most : (s : Speed) → perByte s ≤ 10
+per-byte-most Mbit100 = omega (arith, per-byte-at-100)
+per-byte-most Mbit10 = omega (arith, per-byte-at-10)
+
+-- ---- equation 1: 5,750 ticks are left for the frames
+pub sends-in-time-is : (sum : ℕ) → sendsInTime sum ≡ leb sum 5750
+unfolding sendsInTime sendBase sendLimit
+sends-in-time-is sum = same-test (500 + sum) 6250 sum 5750 (omega arith) (omega arith)
+
+pub sends-in-time : (sum : ℕ) → sum ≤ 5750 → sendsInTime sum ≡ true
+sends-in-time sum h = sends-in-time-is sum ∙ le-leb sum 5750 h
+
+pub sends-in-time-was : (sum : ℕ) → sendsInTime sum ≡ true → sum ≤ 5750
+sends-in-time-was sum e = leb-true sum 5750 (sym (sends-in-time-is sum) ∙ e)

@@ -1,0 +1,41 @@
+-- `frame::packets_of` meets its contract: the arms are the ranges of Lmax and M, and the quotient is equation 4.
+-- Assumes nothing.
+use mathlib.Core.Logic.{inl, inr}
+use mathlib.Core.Path.{ap, _∙_}
+use mathlib.Core.Option.{some}
+use borrow.Author.Needs.{needs}
+use native.Mathlib.Omega.{arith}
+use Rattle.frame.proofs.PacketLaws.{packets-is, packets-given, packets-frame-refused, packets-message-refused}
+use Rattle.frame.proofs.ReplyLaws.{gives, refuses}
+use Rattle.frame.proofs.packets_of.Statement.{statement}
+use Rattle.frame.proofs.packets_of.Tie as tie
+
+sub-full : tie.Need-sub-full
+sub-full c = search needs
+
+sub-t8 : tie.Need-sub-t8
+sub-t8 c = search needs
+
+add-t9 : tie.Need-add-t9
+add-t9 c = search needs
+
+div-t10 : tie.Need-div-t10
+div-t10 c = search needs
+
+returns : tie.Need-returns
+returns c = gives _ _ (packets-given _ _ (omega arith) (omega arith) (omega arith) (omega arith) ∙ ap some (packets-is _ _))
+
+returns-2 : tie.Need-returns-2
+returns-2 c = refuses _ (packets-message-refused _ _ (inl (omega arith)))
+
+returns-3 : tie.Need-returns-3
+returns-3 c = refuses _ (packets-message-refused _ _ (inr (omega arith)))
+
+returns-4 : tie.Need-returns-4
+returns-4 c = refuses _ (packets-frame-refused _ _ (inl (omega arith)))
+
+returns-5 : tie.Need-returns-5
+returns-5 c = refuses _ (packets-frame-refused _ _ (inr (omega arith)))
+
+pub packets-of-spec : {M : Type 1} → statement M
+packets-of-spec = tie.close (tie.spec sub-full sub-t8 add-t9 div-t10 returns returns-2 returns-3 returns-4 returns-5)

@@ -1,0 +1,5 @@
+pub mod Tick
+pub mod Frame
+pub mod Packets
+pub mod Gap
+pub mod Reply

@@ -1,0 +1,15 @@
+pub mod FlowLaws
+pub mod SpanLaws
+pub mod Turns
+pub mod Tallies
+pub mod StationLaws
+pub mod Parts
+pub mod Over
+pub mod Facts
+pub mod AnswerLaws
+pub mod Computed
+pub mod Rows
+pub mod Locals
+pub mod WalkLaws
+pub mod SearchedCall
+pub mod Unique
