@@ -1,0 +1,10 @@
+pub mod Digits
+pub mod BitLaws
+pub mod FieldLaws
+pub mod RoomLaws
+pub mod ByteLaws
+pub mod RecordLaws
+pub mod CarryLaws
+pub mod Unique
+pub mod RowLaws
+pub mod TableLaws

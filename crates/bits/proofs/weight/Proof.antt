@@ -1,0 +1,16 @@
+-- `bits::weight` meets its contract: a shift by less than 8 drops no bit.
+-- Assumes nothing.
+use native.Mathlib.Omega.{arith}
+use lib.Pow.{pow-mono}
+use borrow.Author.Needs.{needs}
+use Rattle.bits.proofs.weight.Statement.{statement}
+use Rattle.bits.proofs.weight.Tie as tie
+
+shl-result : tie.Need-shl-result
+shl-result c = search needs
+
+returns : tie.Need-returns
+returns c = omega (arith, pow-mono {i = c .args .p} {j = 7} (omega arith))
+
+pub weight-spec : {M : Type 1} → statement M
+weight-spec = tie.close (tie.spec shl-result returns)

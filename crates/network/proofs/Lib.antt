@@ -1,0 +1,4 @@
+pub mod ReferenceTests
+pub mod ReferenceLaws
+pub mod PortLaws
+pub mod RouteLaws
