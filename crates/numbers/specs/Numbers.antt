@@ -39,7 +39,7 @@ numbers =
     ∷ holds (stationSays (flow 25000 24999 12500 ∷ [])) (accepted (25000 ∷ 24999 ∷ []))
     -- 5. p 1, T 25,000 with p 2, T 50,000, both J 0: L 50,000, queue 25,000
     ∷ holds (stationSays (flow 25000 0 12500 ∷ flow 50000 0 (2 * 12500) ∷ [])) (accepted (50000 ∷ 37500 ∷ []))
-    -- 6. the same with J 1 on the first: refused
+    -- 6. the same with J 1 on the first: refused 9, for the station by itself 10
     ∷ holds (stationSays (flow 25000 1 12500 ∷ flow 50000 0 (2 * 12500) ∷ [])) (refused 10 (0 ∷ 0 ∷ []))
     -- 7. two sub-links, p 1, T 50,000, J 0: queue 12,500
     ∷ holds (stationSays (flow 50000 0 (1 * 2 * 12500) ∷ [])) (accepted (25000 ∷ 25000 ∷ []))

@@ -1,5 +1,5 @@
 -- 01, What is promised: "The station's facts are proved once over any list of flows, for queue and port alike." Each fact is a statement here; proofs/Facts.antt proves it.
--- They ask no more of flows than periods of at least a tick, where they ask anything. Assumes nothing.
+-- They ask no more of flows than periods of at least a tick and, for one of them, costs of at least 1. Assumes nothing.
 use Prim.Native.Nat.{ℕ, zero, suc, _+_, _≤_, _<_}
 use mathlib.Core.List.{List, [], _∷_}
 use mathlib.Core.Option.{Option, none, some}

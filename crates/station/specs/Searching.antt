@@ -113,7 +113,7 @@ Searching g s = State (s .going) g s
 -- what is left of the search: a number that falls with each turn
 abbrev pub leftOf : Bool → Bool → ℕ → ℕ
 leftOf false rising d = 0
-leftOf true true d = 250000001 - d
+leftOf true true d = limit + limit + 1 - d
 leftOf true false d = d + 1
 
 abbrev pub left : Search → ℕ
@@ -128,7 +128,7 @@ Fell l b work last r =
 abbrev pub Rose : ℕ → Best → ℕ → ℕ → Search → Type 0
 Rose d b work last r =
     (g : ℕ → ℕ) → Monotone g → Rising g d → Seed g b → Passed g d work last
-    → Searching g r × (left r < 250000001 - d)
+    → Searching g r × (left r < limit + limit + 1 - d)
 
 pub record Turned (s : Search) (t : Tally) (r : Search) : Type 0 where
   pub unfair : t .fair ≡ false → (r .going ≡ false) × (r .answer ≡ OutOfRange)
