@@ -7,7 +7,8 @@ use native.Mathlib.Decide.{decLt}
 use native.Mathlib.Omega.{arith}
 use lib.ListN.{length}
 use Rattle.bits.specs.Bits.{Bytes, bitAt, fieldAt, putAt}
-use Rattle.bits.specs.Rows.{total, readAll, putAll}
+use Rattle.base.specs.Tabulate.{total}
+use Rattle.bits.specs.Rows.{readAll, putAll}
 use Rattle.bits.proofs.FieldLaws.{length-put, bit-carried}
 use Rattle.bits.proofs.ByteLaws.{same-bits}
 use Rattle.bits.proofs.RecordLaws.{length-put-all, bytes-put-all, before}

@@ -8,3 +8,4 @@ pub mod CarryLaws
 pub mod Unique
 pub mod RowLaws
 pub mod TableLaws
+pub mod PartLaws

@@ -7,7 +7,8 @@ use native.Mathlib.Nat.{not-suc-le-zero, le-of-suc-le-suc}
 use native.Mathlib.Omega.{arith}
 use lib.ListN.{length, getD}
 use Rattle.bits.specs.Bits.{Bytes, bitAt}
-use Rattle.bits.specs.Rows.{total, readAll, putAll, readRows, putRows, FitRows}
+use Rattle.base.specs.Tabulate.{total}
+use Rattle.bits.specs.Rows.{readAll, putAll, Fit, readRows, putRows, FitRows}
 use Rattle.bits.proofs.RecordLaws.{fit-read, read-by-bits, length-put-all, bytes-put-all, outside, read-back}
 
 -- ---- the rows one by one
@@ -52,6 +53,12 @@ pub fit-rows : (s : List ℕ) (a : ℕ) (ws : List ℕ) (n : ℕ) → FitRows ws
 unfolding readRows FitRows
 fit-rows s a ws zero = tt
 fit-rows s a ws (suc n) = (fit-read s a ws, fit-rows s (a + total ws) ws n)
+
+-- rows fit where each does
+pub fit-rows-of : (ws : List ℕ) (rows : List (List ℕ)) → ((i : ℕ) → i < length rows → Fit ws (getD rows i [])) → FitRows ws rows
+unfolding FitRows
+fit-rows-of ws [] f = tt
+fit-rows-of ws (r ∷ rows) f = (f 0 (omega arith), fit-rows-of ws rows (λ i h. f (suc i) (omega arith)))
 
 -- rows go by their bits alone
 pub rows-by-bits : (s t : List ℕ) (a : ℕ) (ws : List ℕ) (n : ℕ) → ((i : ℕ) → a ≤ i → i < a + n * total ws → bitAt s i ≡ bitAt t i)

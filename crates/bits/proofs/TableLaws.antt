@@ -3,10 +3,12 @@
 use mathlib.Core.Path.{_≡_, refl, sym, ap, ap₂, _∙_}
 use mathlib.Core.List.{List, [], _∷_, _++_}
 use Prim.Native.Nat.{ℕ, zero, suc, _+_, _*_, _≤_, _<_}
+use native.Mathlib.Nat.{add-zero, add-assoc}
 use native.Mathlib.Omega.{arith}
 use lib.ListN.{length}
 use Rattle.bits.specs.Bits.{Bytes, bitAt}
-use Rattle.bits.specs.Rows.{total, readAll, putAll, readRows, putRows, Section, sectionBits, tableBits, readTable, putTable, FitTable}
+use Rattle.base.specs.Tabulate.{total}
+use Rattle.bits.specs.Rows.{readAll, putAll, readRows, putRows, FitRows, Section, sectionBits, tableBits, readTable, putTable, FitTable}
 use Rattle.bits.proofs.RecordLaws.{length-read, total-append, read-append, put-append}
 use Rattle.bits.proofs.RowLaws.{rows-by-bits, length-put-rows, rows-outside, rows-back}
 use Rattle.bits.proofs.CarryLaws.{carried}
@@ -47,6 +49,37 @@ table-back s a (x ∷ xs) (rows ∷ parts) h f =
     ∙ rows-by-bits (putTable t (a + sectionBits x) xs parts) t a ws (length rows) (λ i l m. later i (omega arith) (f .2) (λ p q. omega arith))
     ∙ rows-back s a ws rows (omega arith) (f .1))
     (table-back t (a + sectionBits x) xs parts (omega arith) (f .2))
+
+-- ---- what a write leaves
+pub length-put-table : (s : List ℕ) (a : ℕ) (xs : List Section) (parts : List (List (List ℕ))) → length (putTable s a xs parts) ≡ length s
+unfolding putTable
+length-put-table s a [] parts = refl
+length-put-table s a (x ∷ xs) [] = refl
+length-put-table s a (x ∷ xs) (rows ∷ parts) =
+    length-put-table (putRows s a (x .widths) rows) (a + sectionBits x) xs parts ∙ length-put-rows s a (x .widths) rows
+
+-- ---- first some sections and then one more
+pub bits-more : (xs : List Section) (x : Section) → tableBits (xs ++ (x ∷ [])) ≡ tableBits xs + sectionBits x
+unfolding tableBits
+bits-more [] x = omega arith
+bits-more (y ∷ xs) x = omega (arith, bits-more xs x)
+
+pub table-more : (s : List ℕ) (a : ℕ) (xs : List Section) (x : Section)
+    → readTable s a (xs ++ (x ∷ [])) ≡ readTable s a xs ++ (readRows s (a + tableBits xs) (x .widths) (x .count) ∷ [])
+unfolding readTable tableBits
+table-more s a [] x = ap (λ (b : ℕ). readRows s b (x .widths) (x .count) ∷ []) (sym (add-zero a))
+table-more s a (y ∷ xs) x =
+    ap (λ (r : List (List (List ℕ))). readRows s a (y .widths) (y .count) ∷ r)
+    (table-more s (a + sectionBits y) xs x
+    ∙ ap (λ (b : ℕ). readTable s (a + sectionBits y) xs ++ (readRows s b (x .widths) (x .count) ∷ [])) (add-assoc a (sectionBits y) (tableBits xs)))
+
+pub fit-more : (xs : List Section) (parts : List (List (List ℕ))) (x : Section) (rows : List (List ℕ)) → FitTable xs parts
+    → length rows ≡ x .count → FitRows (x .widths) rows → FitTable (xs ++ (x ∷ [])) (parts ++ (rows ∷ []))
+unfolding FitTable
+fit-more [] [] x rows f n r = (n, r, tt)
+fit-more [] (p ∷ parts) x rows f n r = absurd f
+fit-more (y ∷ xs) [] x rows f n r = absurd f
+fit-more (y ∷ xs) (p ∷ parts) x rows f n r = (f .0, f .1, fit-more xs parts x rows (f .2) n r)
 
 -- ---- laid flat
 -- the widths of n rows, and of all rows of the sections

@@ -4,12 +4,8 @@ use Prim.Native.Nat.{ℕ, zero, suc, _+_, _*_, _^_, _<_}
 use mathlib.Core.Path.{_≡_}
 use mathlib.Core.List.{List, [], _∷_}
 use lib.ListN.{length}
+use Rattle.base.specs.Tabulate.{total}
 use Rattle.bits.specs.Bits.{fieldAt, putAt}
-
--- how many bits the widths add to
-unfoldable pub total : List ℕ → ℕ
-total [] = 0
-total (w ∷ ws) = w + total ws
 
 -- "Fields follow one another [..] with no gaps inside a record": the numbers of a record, by its widths, from bit a on
 unfoldable pub readAll : List ℕ → ℕ → List ℕ → List ℕ

@@ -1,0 +1,11 @@
+pub mod LayoutLaws
+pub mod FieldLaws
+pub mod RowLaws
+pub mod FaultLaws
+pub mod RoomLaws
+pub mod AnswerLaws
+pub mod TurnLaws
+pub mod BackLaws
+pub mod PlainLaws
+pub mod ListedLaws
+pub mod Unique

@@ -1,0 +1,107 @@
+-- What one turn of each loop over the fields of a row adds: one number to an array, one field read or written, one field tested.
+-- Assumes nothing.
+use mathlib.Core.Path.{_≡_, sym, ap, _∙_}
+use mathlib.Core.Bool.{true, false}
+use mathlib.Core.List.{List}
+use mathlib.Core.Logic.{⊎-elim}
+use Prim.Native.Nat.{ℕ, _+_, _≤_, _<_}
+use native.Mathlib.Nat.{eq-or-lt-of-le}
+use native.Mathlib.Omega.{arith}
+use lib.Dec.{eqb}
+use lib.ListN.{length, getD, take, set}
+use lib.Seq.{take-all, take-length}
+use borrow.Author.Tests.{not-true, not-false}
+use Rattle.base.specs.Said.{ruled}
+use Rattle.frame.specs.Reply.{said}
+use Rattle.frame.specs.declared.Reply.{Reply}
+use Rattle.bits.specs.declared.Cursor.{Cursor}
+use Rattle.bits.specs.declared.Field.{Field}
+use Rattle.bits.specs.Bits.{fieldAt}
+use Rattle.bits.specs.Place.{nextPlace, fieldOf, putOf}
+use Rattle.base.specs.Tabulate.{total}
+use Rattle.bits.specs.Rows.{readAll, putAll}
+use Rattle.bits.proofs.RecordLaws.{total-more, length-read, read-at, length-put-all}
+use Rattle.bits.proofs.PartLaws.{put-more, put-first}
+use Rattle.bits.proofs.RoomLaws.{field-next, put-next}
+use Rattle.layout.specs.declared.Shape.{Shape}
+use Rattle.layout.specs.declared.Way.{Way}
+use Rattle.layout.specs.Layout.{layout, blank, widths}
+use Rattle.layout.specs.Fields.{convert}
+use Rattle.base.specs.Tests.{isSome}
+use Rattle.layout.specs.Rows.{wide, converted, rowRoom, rowAt, withRowAt}
+use Rattle.layout.proofs.AnswerLaws.{refusal-of, value-of}
+use Rattle.layout.proofs.FaultLaws.{GoodTo}
+use Rattle.layout.proofs.LayoutLaws.{widths-at, length-widths}
+use Rattle.layout.proofs.RoomLaws.{field-room, row-there, put-there}
+use Rattle.layout.proofs.RowLaws.{converted-at, wide-more}
+
+-- ---- an array filled number by number
+pub filled-more : (row out : List ℕ) (k v : ℕ) → length row ≤ 11 → k < length row → out ≡ wide (take k row) → v ≡ getD row k 0 → set out k v ≡ wide (take (k + 1) row)
+filled-more row out k v h l e f = rw (e, f) (wide-more row k h l)
+
+pub filled-all : (row out : List ℕ) (k : ℕ) → length row ≤ k → out ≡ wide (take k row) → out ≡ wide row
+filled-all row out k h e = e ∙ ap wide (take-all k row h)
+
+-- ---- a number converted
+module _ (way : Way) (section : ℕ) (row : List ℕ) (k : ℕ) (s : Shape) (x : Reply) (is : s ≡ getD (layout section) k blank)
+    (told : said x ≡ ruled (convert way s (getD row k 0))) where
+  by-shape : said x ≡ ruled (convert way (getD (layout section) k blank) (getD row k 0))
+  by-shape = rw is at told
+
+  pub number-more : (v : ℕ) → k < length (layout section) → v ≡ getD (said x .values) 0 0 → v ≡ getD (converted way (layout section) row) k 0
+  number-more v h e = e ∙ value-of x _ by-shape ∙ sym (converted-at way (layout section) row k h)
+
+  -- ---- a number tested
+  pub refused-here : eqb (said x .number) 4 ≡ true → isSome (convert way (getD (layout section) k blank) (getD row k 0)) ≡ false
+  refused-here e = not-true _ (sym (refusal-of x _ by-shape) ∙ e)
+
+  pub good-more : GoodTo way section row k → eqb (said x .number) 4 ≡ false → GoodTo way section row (k + 1)
+  good-more good e i h = ⊎-elim
+      (λ (same : i ≡ k). rw same (not-false _ (sym (refusal-of x _ by-shape) ∙ e)))
+      (λ (low : i < k). good i low)
+      (eq-or-lt-of-le (omega arith))
+
+-- ---- a field read or written
+module _ (bytes : List ℕ) (a section k : ℕ) (room : rowRoom (length bytes) a (widths section) ≡ true) (h : k < length (layout section))
+    (s : Shape) (is : s ≡ getD (layout section) k blank) (b : ℕ) (at : b ≡ a + total (take k (widths section))) where
+  low : k < length (widths section)
+  low = omega (arith, length-widths section)
+
+  next-total : a + total (take k (widths section)) + s .0 ≡ a + total (take (k + 1) (widths section))
+  next-total = rw is (omega (arith, total-more (widths section) k low, widths-at section k))
+
+  same-width : s .0 ≡ getD (widths section) k 0
+  same-width = ap (λ (x : Shape). x .0) is ∙ sym (widths-at section k)
+
+  pub read-more : (r : Field) → r ≡ fieldOf bytes b (s .0)
+      → (r .next .at ≡ a + total (take (k + 1) (widths section))) × (r .value ≡ getD (readAll bytes a (widths section)) k 0)
+  read-more r e =
+      let got = field-next bytes (a + total (take k (widths section))) b (s .0) r e at (rw is (field-room bytes a section k room h)) in (
+        got .1 ∙ next-total,
+        got .0 ∙ ap (fieldAt bytes (a + total (take k (widths section)))) same-width ∙ sym (read-at bytes a (widths section) k low),
+      )
+
+  pub write-more : (now next row : List ℕ) (c : Cursor) → k < length row → now ≡ putAll bytes a (take k (widths section)) (take k row)
+      → (c ≡ nextPlace now b (s .0)) × (next ≡ putOf now b (s .0) (getD row k 0))
+      → (c .at ≡ a + total (take (k + 1) (widths section))) × (next ≡ putAll bytes a (take (k + 1) (widths section)) (take (k + 1) row))
+  write-more now next row c l is-now e =
+      let long : length now ≡ length bytes = rw is-now (length-put-all bytes a (take k (widths section)) (take k row)) in
+      let room-now : rowRoom (length now) a (widths section) ≡ true = rw long room in
+      let got =
+      put-next now next (a + total (take k (widths section))) b (s .0) (getD row k 0) c e at (rw is (field-room now a section k room-now h)) in
+      (got .0 ∙ next-total, got .1 ∙ rw (same-width, is-now) (sym (put-more bytes a (widths section) row k low l)))
+
+-- ---- all fields
+module _ (bytes : List ℕ) (a section k : ℕ) (room : rowRoom (length bytes) a (widths section) ≡ true) (h : length (layout section) ≤ k) where
+  pub read-all : (out : List ℕ) → out ≡ wide (take k (readAll bytes a (widths section))) → out ≡ wide (rowAt bytes a section)
+  read-all out e =
+      rw (row-there bytes a section room)
+      (filled-all (readAll bytes a (widths section)) out k (omega (arith, length-read bytes a (widths section), length-widths section)) e)
+
+  pub written-all : (now row : List ℕ) → k ≤ length (layout section) → length (layout section) ≤ length row
+      → now ≡ putAll bytes a (take k (widths section)) (take k row) → now ≡ withRowAt bytes a section row
+  written-all now row l enough e =
+      let n = length-widths section in
+      let same : k ≡ length (widths section) = omega arith in
+      e
+      ∙ rw (same, take-length (widths section), put-there bytes a section row room) (put-first bytes a (widths section) row (omega arith))

@@ -1,0 +1,51 @@
+-- Each public contract settles its answer and what the lent table holds: two results that both satisfy it are equal.
+-- Assumes nothing.
+use mathlib.Core.Path.{_≡_, refl, sym, ap, _∙_}
+use mathlib.Core.Option.{Option·some-injective, Option·some-ne-none, Option·none-ne-some}
+use Rattle.base.specs.Settles.{Settles}
+use Rattle.layout.specs.declared.Fault.{Fault}
+use Rattle.layout.specs.declared.Fault.the-variants.{Test, Nothing}
+use Rattle.layout.specs.Rows.{faultOf}
+use Rattle.layout.proofs.fields_in.Kinds as fields-kinds
+use Rattle.layout.proofs.fields_in.Reads as fields-reads
+use Rattle.layout.proofs.numbers_in.Kinds as numbers-kinds
+use Rattle.layout.proofs.numbers_in.Reads as numbers-reads
+use Rattle.layout.proofs.bytes_in.Kinds as bytes-kinds
+use Rattle.layout.proofs.bytes_in.Reads as bytes-reads
+use Rattle.layout.proofs.row_at.Kinds as row-kinds
+use Rattle.layout.proofs.row_at.Reads as row-reads
+use Rattle.layout.proofs.put_row.Kinds as put-kinds
+use Rattle.layout.proofs.put_row.Reads as put-reads
+use Rattle.layout.proofs.converted_row.Kinds as converted-kinds
+use Rattle.layout.proofs.converted_row.Reads as converted-reads
+use Rattle.layout.proofs.fault_of.Kinds as fault-kinds
+use Rattle.layout.proofs.fault_of.Reads as fault-reads
+
+pub fields : Settles 0 fields-kinds.ps fields-kinds.r fields-reads.Post
+fields κs a x y ws vs p q = (p ∙ sym q, refl)
+
+pub numbers : Settles 0 numbers-kinds.ps numbers-kinds.r numbers-reads.Post
+numbers κs a x y ws vs p q = (p ∙ sym q, refl)
+
+pub bytes : Settles 0 bytes-kinds.ps bytes-kinds.r bytes-reads.Post
+bytes κs a x y ws vs p q = (p ∙ sym q, refl)
+
+pub row : Settles 1 row-kinds.ps row-kinds.r row-reads.Post
+row κs a x y ws vs p q = (p ∙ sym q, refl)
+
+pub put : Settles 1 put-kinds.ps put-kinds.r put-reads.Post
+put κs a x y ws vs p q = (refl, (λ i. ((p ∙ sym q) i, (tt, (tt, (tt, tt))))))
+
+pub converted : Settles 0 converted-kinds.ps converted-kinds.r converted-reads.Post
+converted κs a x y ws vs p q = (p ∙ sym q, refl)
+
+-- a fault tells its test
+fault-settles : (x y : Fault) → faultOf x ≡ faultOf y → x ≡ y
+unfolding faultOf
+fault-settles (Test i) (Test j) e = ap Test (Option·some-injective i j e)
+fault-settles (Test i) Nothing e = absurd (Option·some-ne-none i e)
+fault-settles Nothing (Test j) e = absurd (Option·none-ne-some j e)
+fault-settles Nothing Nothing e = refl
+
+pub fault : Settles 0 fault-kinds.ps fault-kinds.r fault-reads.Post
+fault κs a x y ws vs p q = (fault-settles x y (p ∙ sym q), refl)

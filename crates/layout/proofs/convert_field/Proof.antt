@@ -1,0 +1,38 @@
+-- `layout::convert_field` meets its contract: each way is one of the two conversions.
+-- Assumes nothing.
+use mathlib.Core.Path.{sym, ap, _∙_}
+use Rattle.base.specs.Said.{ruled}
+use Rattle.layout.specs.declared.Way.{Way}
+use Rattle.layout.specs.Fields.{convert}
+use borrow.Author.Needs.{needs}
+use Rattle.layout.proofs.convert_field.Statement.{statement}
+use Rattle.layout.proofs.convert_field.Tie as tie
+
+enum-told : tie.Need-enum-told
+enum-told c = search needs
+
+meaning-of-requires : tie.Need-meaning-of-requires
+meaning-of-requires c κs = search needs
+
+enum-told-2 : tie.Need-enum-told-2
+enum-told-2 c = search needs
+
+stored-as-requires : tie.Need-stored-as-requires
+stored-as-requires c κs = search needs
+
+returns : tie.Need-returns
+unfolding convert
+returns c =
+    let a = c .before .before .before .args in
+    c .meaning-of .ensures ∙ sym (ap (λ (w : Way). ruled (convert w (a .s) (a .n))) (c .before .enum-told .given .1))
+
+returns-2 : tie.Need-returns-2
+unfolding convert
+returns-2 c =
+    let a = c .before .before .before .args in
+    c .stored-as .ensures ∙ sym (ap (λ (w : Way). ruled (convert w (a .s) (a .n))) (c .before .enum-told2 .given .1))
+
+pub convert-field-spec : {M : Type 1} → statement M
+convert-field-spec =
+    tie.close
+    (tie.spec enum-told meaning-of-requires enum-told-2 stored-as-requires returns returns-2)

@@ -1,0 +1,92 @@
+-- `layout::fault_of` meets its contract: after k turns the first k fields are in range.
+-- Assumes nothing.
+use mathlib.Core.Path.{sym, _∙_}
+use Prim.Native.Nat.{_-_, _≤_}
+use native.Mathlib.Omega.{arith}
+use Rattle.layout.specs.Rows.{faultOf}
+use Rattle.layout.proofs.LayoutLaws.{few-fields, narrow}
+use Rattle.layout.proofs.FaultLaws.{GoodTo, fault-field, fault-order}
+use Rattle.layout.proofs.TurnLaws.{refused-here, good-more}
+use borrow.Author.Needs.{needs}
+use Rattle.layout.proofs.fault_of.Statement.{statement}
+use Rattle.layout.proofs.fault_of.Tie as tie
+
+abbrev Inv-loop : tie.InvT-loop
+Inv-loop way section row n k₀ k = (k ≤ n) × GoodTo way section row k
+
+abbrev μ-loop : tie.MeasureT-loop
+μ-loop way section row n k₀ k = n - k
+
+fields-in-requires : tie.Need-fields-in-requires Inv-loop μ-loop
+fields-in-requires c κs = search needs
+
+loop-holds : tie.Need-loop-holds Inv-loop μ-loop
+loop-holds c = (omega arith, (λ i h. absurd (omega arith)))
+
+shape-at-requires : tie.Need-shape-at-requires Inv-loop μ-loop
+shape-at-requires c κs = search needs
+
+mul-convert-field : tie.Need-mul-convert-field Inv-loop μ-loop
+mul-convert-field c = omega (arith, few-fields (c .before .before .before .before .args .section))
+
+array-read-convert-field : tie.Need-array-read-convert-field Inv-loop μ-loop
+array-read-convert-field c = omega (arith, few-fields (c .before .before .before .before .args .section))
+
+convert-field-requires : tie.Need-convert-field-requires Inv-loop μ-loop
+convert-field-requires c κs = rw (c .shape-at .ensures) (narrow (c .before .before .before .before .args .section) (c .before .before .loop .k) (omega arith))
+
+is-refused-requires : tie.Need-is-refused-requires Inv-loop μ-loop
+is-refused-requires c κs = search needs
+
+returns : tie.Need-returns Inv-loop μ-loop
+unfolding faultOf
+returns c =
+    let a = c .before .before .before .before .before .before .before .args in
+    let l = c .before .before .before .before .before .loop in
+    sym
+    (fault-field (a .way) (a .section) (a .t3) (l .k) (omega arith) (l .inv .1)
+    (refused-here (a .way) (a .section) (a .t3) (l .k) _ _ (c .before .before .before .shape-at .ensures) (c .before .before .convert-field .ensures)
+    (sym (c .before .is-refused .ensures) ∙ c .if1 .taken)))
+
+add-k : tie.Need-add-k Inv-loop μ-loop
+add-k c = search needs
+
+loop-less : tie.Need-loop-less Inv-loop μ-loop
+loop-less c = search needs
+
+loop-again : tie.Need-loop-again Inv-loop μ-loop
+loop-again c =
+    let a = c .before .before .before .before .before .before .before .args in
+    let l = c .before .before .before .before .before .loop in (
+      omega arith,
+      good-more (a .way) (a .section) (a .t3) (l .k) _ _ (c .before .before .before .shape-at .ensures) (c .before .before .convert-field .ensures) (l .inv .1)
+          (sym (c .before .is-refused .ensures) ∙ c .if1 .left),
+    )
+
+order-fault-requires : tie.Need-order-fault-requires Inv-loop μ-loop
+order-fault-requires c κs = search needs
+
+returns-2 : tie.Need-returns-2 Inv-loop μ-loop
+returns-2 c =
+    let a = c .before .before .before .before .args in
+    c .order-fault .ensures ∙ sym (fault-order (a .way) (a .section) (a .t3) (λ i h. c .before .before .loop .inv .1 i (omega arith)))
+
+pub fault-of-spec : {M : Type 1} → statement M
+fault-of-spec =
+    tie.close
+    (tie.spec
+    Inv-loop
+    μ-loop
+    fields-in-requires
+    loop-holds
+    shape-at-requires
+    mul-convert-field
+    array-read-convert-field
+    convert-field-requires
+    is-refused-requires
+    returns
+    add-k
+    loop-less
+    loop-again
+    order-fault-requires
+    returns-2)

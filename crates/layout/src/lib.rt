@@ -1,0 +1,339 @@
+// The layout of the packed table as data, and a record of it as a row of numbers: read, tested, meant, stored and written.
+// One body serves every section: what differs between sections stands in the tables below.
+use bits::Cursor;
+use frame::Reply;
+ghost use mathlib.Core.Path.{_≡_};
+ghost use mathlib.Core.Option.{none, some};
+ghost use Prim.Native.Nat.{_≤_, _<_, min};
+ghost use lib.Dec.{eqb};
+ghost use lib.ListN.{length, getD};
+ghost use Rattle.base.specs.Pick.{pick, within};
+ghost use Rattle.base.specs.Said.{ruled};
+ghost use Rattle.frame.specs.Reply.{said};
+ghost use Rattle.layout.specs.Layout.{layout, widths, size, blank};
+ghost use Rattle.layout.specs.Fields.{meaning, storedAs, convert};
+ghost use Rattle.layout.specs.Rows.{rowRoom, rowAt, withRowAt, wide, converted, listed, orderFault, rowFault, faultOf};
+
+// What a stored field stands for.
+pub enum Kind {
+    // a number from the first to the second
+    Number(u64, u64),
+    // a row of another section, or a sub-link: any number
+    Reference,
+    // zero
+    Padding,
+    // a code of the gap in milliseconds
+    Gap,
+    // a count, less one
+    LessOne,
+    // a code of the speed in Mbit/s
+    Speed,
+}
+
+// A field's width in bits, and its kind.
+pub struct Shape(pub usize, pub Kind);
+
+const HEADER: [Shape; 11] = [
+    Shape(8, Kind::Number(1, 1)),
+    Shape(8, Kind::Number(0, 64)),
+    Shape(12, Kind::Number(0, 256)),
+    Shape(12, Kind::Number(0, 512)),
+    Shape(8, Kind::Number(0, 128)),
+    Shape(12, Kind::Number(0, 1_024)),
+    Shape(12, Kind::Number(0, 1_875)),
+    Shape(12, Kind::Number(0, 1_875)),
+    Shape(12, Kind::Number(0, 1_875)),
+    Shape(12, Kind::Number(0, 1_875)),
+    Shape(4, Kind::Padding),
+];
+
+const END_SYSTEM: [Shape; 2] = [Shape(1, Kind::Speed), Shape(7, Kind::Padding)];
+
+const VL: [Shape; 4] = [
+    Shape(8, Kind::Reference),
+    Shape(3, Kind::Gap),
+    Shape(2, Kind::LessOne),
+    Shape(11, Kind::Number(64, 1_518)),
+];
+
+const STREAM: [Shape; 8] = [
+    Shape(12, Kind::Reference),
+    Shape(2, Kind::Reference),
+    Shape(1, Kind::Number(0, 1)),
+    Shape(14, Kind::Number(1, 8_192)),
+    Shape(14, Kind::Number(1, 8_192)),
+    Shape(27, Kind::Number(12_500, 125_000_000)),
+    Shape(27, Kind::Number(0, 125_000_000)),
+    Shape(7, Kind::Padding),
+];
+
+const PORT: [Shape; 4] = [
+    Shape(1, Kind::Speed),
+    Shape(12, Kind::Number(0, 1_250)),
+    Shape(12, Kind::Number(0, 1_250)),
+    Shape(7, Kind::Padding),
+];
+
+const HOP: [Shape; 3] = [
+    Shape(12, Kind::Reference),
+    Shape(8, Kind::Reference),
+    Shape(12, Kind::Reference),
+];
+
+// The fields of a record, the numbers it has in a list, and its bytes, by section; then a section that does not exist.
+const FIELDS: [usize; 7] = [11, 2, 4, 8, 4, 3, 0];
+
+const NUMBERS: [usize; 7] = [10, 1, 4, 7, 3, 3, 0];
+
+const BYTES: [usize; 7] = [14, 1, 3, 13, 4, 4, 0];
+
+// Whether numbers are read from the table or are to be written to it.
+pub enum Way {
+    Reading,
+    Writing,
+}
+
+// The first test of a row that fails: a field's own range by the field's place, then the pairs of fields that are not in order.
+pub enum Fault {
+    Test(u64),
+    Nothing,
+}
+
+// The place of a section in the tables above.
+fn known(section: usize) -> usize
+    ensures { λ r. ⌜ r ≡ min section 6 ⌝ }
+{
+    if section < 6 {
+        return section;
+    }
+    6
+}
+
+pub fn fields_in(section: usize) -> usize
+    ensures { λ r. ⌜ r ≡ length (layout section) ⌝ }
+{
+    FIELDS[known(section)]
+}
+
+pub fn numbers_in(section: usize) -> usize
+    ensures { λ r. ⌜ r ≡ listed section ⌝ }
+{
+    NUMBERS[known(section)]
+}
+
+pub fn bytes_in(section: usize) -> usize
+    ensures { λ r. ⌜ r ≡ size section ⌝ }
+{
+    BYTES[known(section)]
+}
+
+// The shape of field k of a section, where it has one.
+fn shape_at(section: usize, k: usize) -> Shape
+    requires { ⌜ k < length (layout section) ⌝ }
+    ensures { λ r. ⌜ r ≡ getD (layout section) k blank ⌝ }
+{
+    match section {
+        0 => HEADER[k],
+        1 => END_SYSTEM[k],
+        2 => VL[k],
+        3 => STREAM[k],
+        4 => PORT[k],
+        _ => HOP[k],
+    }
+}
+
+// What a stored number means.
+fn meaning_of(kind: Kind, n: u64) -> Reply
+    ensures { λ r. ⌜ said r ≡ ruled (meaning kind n) ⌝ }
+{
+    match kind {
+        Kind::Number(low, high) => between(low, high, n),
+        Kind::Reference => Reply::Value(n),
+        Kind::Padding => between(0, 0, n),
+        Kind::Gap => frame::ms_of(n),
+        Kind::LessOne => match n {
+            0..=3 => Reply::Value(n + 1),
+            _ => Reply::Refused,
+        },
+        Kind::Speed => match n {
+            0 => Reply::Value(100),
+            1 => Reply::Value(10),
+            _ => Reply::Refused,
+        },
+    }
+}
+
+// How a meaning is stored in a field of this width.
+fn stored_as(kind: Kind, width: usize, v: u64) -> Reply
+    requires { ⌜ width ≤ 32 ⌝ }
+    ensures { λ r. ⌜ said r ≡ ruled (storedAs kind width v) ⌝ }
+{
+    match kind {
+        Kind::Number(low, high) => between(low, high, v),
+        Kind::Reference => between(0, (1u64 << width) - 1, v),
+        Kind::Padding => between(0, 0, v),
+        Kind::Gap => frame::code_of(v),
+        Kind::LessOne => match v {
+            1..=4 => Reply::Value(v - 1),
+            _ => Reply::Refused,
+        },
+        Kind::Speed => match v {
+            100 => Reply::Value(0),
+            10 => Reply::Value(1),
+            _ => Reply::Refused,
+        },
+    }
+}
+
+// A number that is from low to high.
+fn between(low: u64, high: u64, n: u64) -> Reply
+    ensures { λ r. ⌜ said r ≡ ruled (pick (within low high n) (some n) none) ⌝ }
+{
+    if n < low {
+        return Reply::Refused;
+    }
+    if high < n {
+        return Reply::Refused;
+    }
+    Reply::Value(n)
+}
+
+fn convert_field(way: Way, s: Shape, n: u64) -> Reply
+    requires { ⌜ s .0 ≤ 32 ⌝ }
+    ensures { λ r. ⌜ said r ≡ ruled (convert way s n) ⌝ }
+{
+    let kind = s.1;
+    match way {
+        Way::Reading => meaning_of(kind, n),
+        Way::Writing => stored_as(kind, s.0, n),
+    }
+}
+
+// The stored numbers of a section's row that begins at bit `at`; zeros where the table has no such row.
+pub fn row_at(table: &[u8], at: usize, section: usize) -> [u64; 11]
+    ensures { λ r. ⌜ r ≡ wide (rowAt (now (table .entry)) at section) ⌝ }
+{
+    let mut row = [0u64; 11];
+    if has_row(table.len(), at, section) {
+        let n = fields_in(section);
+        let mut c = Cursor::new(at);
+        let mut k = 0;
+        while k < n {
+            let s = shape_at(section, k);
+            let f = c.read(table, s.0);
+            row[k] = f.value;
+            c = f.next;
+            k += 1;
+        }
+    }
+    row
+}
+
+// Writes the stored numbers of a section's row that begins at bit `at`; nothing where there is no such row.
+pub fn put_row(table: &mut [u8], at: usize, section: usize, row: [u64; 11])
+    ensures { λ _. ⌜ now (table .exit) ≡ withRowAt (now (table .entry)) at section row ⌝ }
+{
+    if has_row(table.len(), at, section) {
+        let n = fields_in(section);
+        let mut c = Cursor::new(at);
+        let mut k = 0;
+        while k < n {
+            let s = shape_at(section, k);
+            c = c.put(table, s.0, row[k]);
+            k += 1;
+        }
+    }
+}
+
+// Whether a table of n bytes has a row of this section from bit `at` on.
+fn has_row(n: usize, at: usize, section: usize) -> bool
+    ensures { λ r. ⌜ r ≡ rowRoom n at (widths section) ⌝ }
+{
+    let w = 8 * bytes_in(section);
+    if 4_294_967_296 < n {
+        return false;
+    }
+    if 8 * n < w {
+        return false;
+    }
+    at <= 8 * n - w
+}
+
+// The row's numbers converted, 0 where one is out of range.
+pub fn converted_row(way: Way, section: usize, row: [u64; 11]) -> [u64; 11]
+    ensures { λ r. ⌜ r ≡ wide (converted way (layout section) row) ⌝ }
+{
+    let n = fields_in(section);
+    let mut out = [0u64; 11];
+    let mut k = 0;
+    while k < n {
+        let s = shape_at(section, k);
+        out[k] = value_or_0(convert_field(way, s, row[k]));
+        k += 1;
+    }
+    out
+}
+
+fn value_or_0(r: Reply) -> u64
+    ensures { λ v. ⌜ v ≡ getD (said r .values) 0 0 ⌝ }
+{
+    match r {
+        Reply::Value(v) => v,
+        Reply::Refused => 0,
+    }
+}
+
+// The first test of a row that fails.
+pub fn fault_of(way: Way, section: usize, row: [u64; 11]) -> Fault
+    ensures { λ r. ⌜ faultOf r ≡ rowFault way section row ⌝ }
+{
+    let n = fields_in(section);
+    let mut k = 0;
+    while k < n {
+        let s = shape_at(section, k);
+        if is_refused(convert_field(way, s, row[k])) {
+            return Fault::Test(k as u64);
+        }
+        k += 1;
+    }
+    order_fault(section, row)
+}
+
+fn is_refused(r: Reply) -> bool
+    ensures { λ b. ⌜ b ≡ eqb (said r .number) 4 ⌝ }
+{
+    match r {
+        Reply::Value(v) => false,
+        Reply::Refused => true,
+    }
+}
+
+// The first pair of fields that are not in order.
+fn order_fault(section: usize, row: [u64; 11]) -> Fault
+    ensures { λ r. ⌜ faultOf r ≡ orderFault section row ⌝ }
+{
+    match section {
+        0 => {
+            if row[7] < row[6] {
+                return Fault::Test(11);
+            }
+            if row[9] < row[8] {
+                return Fault::Test(12);
+            }
+            Fault::Nothing
+        }
+        3 => {
+            if row[3] < row[4] {
+                return Fault::Test(8);
+            }
+            Fault::Nothing
+        }
+        4 => {
+            if row[2] < row[1] {
+                return Fault::Test(4);
+            }
+            Fault::Nothing
+        }
+        _ => Fault::Nothing,
+    }
+}
