@@ -9,3 +9,4 @@ pub mod Unique
 pub mod RowLaws
 pub mod TableLaws
 pub mod PartLaws
+pub mod StepLaws

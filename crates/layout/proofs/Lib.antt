@@ -9,3 +9,6 @@ pub mod BackLaws
 pub mod PlainLaws
 pub mod ListedLaws
 pub mod Unique
+pub mod ReadLaws
+pub mod WideLaws
+pub mod ToldLaws

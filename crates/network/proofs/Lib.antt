@@ -2,3 +2,4 @@ pub mod ReferenceTests
 pub mod ReferenceLaws
 pub mod PortLaws
 pub mod RouteLaws
+pub mod TestsAre

@@ -1,0 +1,12 @@
+pub mod Sum
+pub mod Lists
+pub mod Turn
+pub mod Pool
+pub mod Queue
+pub mod Mux
+pub mod Fifo
+pub mod Messages
+pub mod Machine
+pub mod Permitted
+pub mod Sound
+pub mod Demand3

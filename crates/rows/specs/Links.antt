@@ -1,0 +1,48 @@
+-- A frame on a link: the most and the least ticks that it takes on an end system's link and on a port's. Everything that belongs to a link stands here.
+-- Assumes nothing.
+use Prim.Native.Nat.{ℕ, zero, suc, _+_, _-_, _*_}
+use mathlib.Core.Bool.{Bool, _&&_, not}
+use mathlib.Core.List.{List, [], _∷_, map}
+use lib.Dec.{eqb}
+use lib.ListN.{length}
+use Rattle.base.specs.Tabulate.{passing, total}
+use Rattle.frame.specs.Frame.{leastLine, largestLine}
+use Rattle.network.specs.Network.{Network, systemAt, vlAt, portAt, hopAt}
+
+-- ---- an end system's link
+-- "(20 + Lmax) × ticks per byte" of VL v's end system
+unfoldable pub sendMost : Network → ℕ → ℕ
+sendMost net v = largestLine (vlAt net v .lmax) * systemAt net (vlAt net v .system) .perByte
+
+-- "84 bytes" on the link of VL v's end system
+unfoldable pub sendLine : Network → ℕ → ℕ
+sendLine net v = leastLine * systemAt net (vlAt net v .system) .perByte
+
+-- "(20 + Lmax − 84) × ticks per byte of the end system"
+unfoldable pub sendSpread : Network → ℕ → ℕ
+sendSpread net v = (largestLine (vlAt net v .lmax) - leastLine) * systemAt net (vlAt net v .system) .perByte
+
+-- the VLs of an end system, in row order
+unfoldable pub vlsOf : Network → ℕ → List ℕ
+vlsOf net e = passing (λ v. eqb (vlAt net v .system) e) (length (net .vls))
+
+-- 7: "the sum of (20 + Lmax) × ticks per byte over an end system's VLs"
+unfoldable pub sendSum : Network → ℕ → ℕ
+sendSum net e = total (map (sendMost net) (vlsOf net e))
+
+-- "Mux wait of a VL: sum of (20 + Lmax) × ticks per byte over the other VLs of its end system."
+unfoldable pub muxWait : Network → ℕ → ℕ
+muxWait net v = total (map (sendMost net) (passing (λ u. eqb (vlAt net u .system) (vlAt net v .system) && not (eqb u v)) (length (net .vls))))
+
+-- ---- a port's link, for the frames of a hop on it
+-- "C = (20 + Lmax) × ticks per byte of the port"
+unfoldable pub hopMost : Network → ℕ → ℕ
+hopMost net h = largestLine (vlAt net (hopAt net h .vl) .lmax) * portAt net (hopAt net h .port) .perByte
+
+-- "84 × its ticks per byte"
+unfoldable pub hopLine : Network → ℕ → ℕ
+hopLine net h = leastLine * portAt net (hopAt net h .port) .perByte
+
+-- "this port's switch delay greatest − least"
+unfoldable pub hopSpread : Network → ℕ → ℕ
+hopSpread net h = portAt net (hopAt net h .port) .delayGreatest - portAt net (hopAt net h .port) .delayLeast

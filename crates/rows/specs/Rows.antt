@@ -1,0 +1,72 @@
+-- 01, Result rows: "For each stream in order, each hop of its VL that is nobody's parent, in order: stream, hop, queue, worst, best, jitter." Worst and best are each the sum of a list of parts.
+-- Assumes nothing.
+use Prim.Native.Nat.{ℕ, zero, suc, _+_, _-_, _*_}
+use mathlib.Core.Bool.{Bool, true, false, _&&_, not}
+use mathlib.Core.List.{List, [], _∷_, _++_, map}
+use mathlib.Core.Option.{Option, none, some}
+use lib.Dec.{eqb}
+use lib.ListN.{length}
+use Rattle.base.specs.Tabulate.{passing, total}
+use Rattle.base.specs.Tests.{isSome}
+use Rattle.base.specs.Least.{leastFrom}
+use Rattle.frame.specs.Packets.{packets}
+use Rattle.network.specs.Network.{Network, vlAt, streamAt, portAt, hopAt}
+use Rattle.network.specs.References.{routeOf}
+use Rattle.rows.specs.Links.{sendMost, sendLine, muxWait, hopLine}
+use Rattle.rows.specs.Queues.{queueFigure}
+use Rattle.rows.specs.Ports.{jitterOf, figureOf}
+
+-- whether hop h is the parent
+unfoldable pub isParent : ℕ → Option ℕ → Bool
+isParent h none = false
+isParent h (some g) = eqb g h
+
+-- a hop that is nobody's parent
+unfoldable pub leaf : Network → ℕ → Bool
+leaf net h = not (isSome (leastFrom (λ g. isParent h (hopAt net g .parent)) 0 (length (net .hops))))
+
+-- the destinations of a VL: its leaf hops, in row order
+unfoldable pub leavesOf : Network → ℕ → List ℕ
+leavesOf net v = passing (λ h. eqb (hopAt net h .vl) v && leaf net h) (length (net .hops))
+
+-- the hops of a route, "routes 8 hops deep"
+unfoldable pub route : Network → ℕ → List ℕ
+route net h = routeOf net 8 h
+
+unfoldable pub queueOf : Network → ℕ → ℕ
+queueOf net s = queueFigure net (streamAt net s .vl) (streamAt net s .subLink)
+
+-- "worst = greatest send delay + queue + mux wait + (20 + Lmax) × ticks per byte + over the route (greatest switch delay + port figure) + greatest receive delay"
+unfoldable pub worstParts : Network → (ℕ → ℕ) → ℕ → ℕ → List ℕ
+worstParts net figureAt s h =
+    net .sendGreatest ∷ queueOf net s ∷ muxWait net (streamAt net s .vl) ∷ sendMost net (streamAt net s .vl)
+    ∷ (map (λ g. portAt net (hopAt net g .port) .delayGreatest + figureAt g) (route net h) ++ (net .receiveGreatest ∷ []))
+
+unfoldable pub worst : Network → ℕ → ℕ → ℕ
+worst net s h = total (worstParts net (figureOf net) s h)
+
+-- "best = least send delay + (least packets − 1) × BAG + 84 bytes on every link + least switch delays + least receive delay"
+unfoldable pub bestParts : Network → ℕ → ℕ → List ℕ
+bestParts net s h =
+    let v = streamAt net s .vl in
+    net .sendLeast ∷ (packets (streamAt net s .leastSize) (vlAt net v .lmax) - 1) * vlAt net v .gap ∷ sendLine net v
+    ∷ (map (λ g. hopLine net g + portAt net (hopAt net g .port) .delayLeast) (route net h) ++ (net .receiveLeast ∷ []))
+
+unfoldable pub best : Network → ℕ → ℕ → ℕ
+best net s h = total (bestParts net s h)
+
+-- "jitter = the stream's jitter + worst − best"
+unfoldable pub rowJitter : Network → ℕ → ℕ → ℕ
+rowJitter net s h = streamAt net s .jitter + (worst net s h - best net s h)
+
+-- "stream, hop, queue, worst, best, jitter"
+unfoldable pub rowOf : Network → ℕ → ℕ → List ℕ
+rowOf net s h = s ∷ h ∷ queueOf net s ∷ worst net s h ∷ best net s h ∷ rowJitter net s h ∷ []
+
+-- the rows of the first n streams, one after the other
+unfoldable pub rowsTo : Network → ℕ → List (List ℕ)
+rowsTo net zero = []
+rowsTo net (suc s) = rowsTo net s ++ map (rowOf net s) (leavesOf net (streamAt net s .vl))
+
+unfoldable pub rowsOf : Network → List (List ℕ)
+rowsOf net = rowsTo net (length (net .streams))

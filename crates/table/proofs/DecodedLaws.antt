@@ -1,0 +1,228 @@
+-- The network that lists describe, number by number: how many rows it has of each kind, and each field of each row, as the number in the list that it is.
+-- Assumes nothing.
+use Prim.Native.Nat.{ℕ, suc, _+_, _*_, _/_, _≤_, _<_}
+use mathlib.Core.List.{List}
+use mathlib.Core.Option.{none, some}
+use mathlib.Core.Path.{_≡_, refl, ap}
+use native.Mathlib.Nat.{add-zero}
+use native.Mathlib.Omega.{arith}
+use lib.Dec.{eqb}
+use lib.ListN.{length, getD, List·getD-eq-default}
+use Rattle.base.proofs.TabulateLaws.{length-tabulate, tabulate-at}
+use Rattle.frame.specs.Tick.{perMs}
+use Rattle.layout.proofs.LayoutLaws.{listed-is}
+use Rattle.network.specs.Network.{EndSystem, Vl, Stream, Port, Hop, noSystem, noVl, noStream, noPort, noHop, systemAt, vlAt, streamAt, portAt, hopAt}
+use Rattle.table.specs.Write.{Lists, listFor, recordsIn}
+use Rattle.table.specs.Decoded.{numberAt, ticksAt, parentOf, systemIn, vlIn, streamIn, portIn, hopIn, networkOf}
+
+-- ---- the delays, and how many rows there are
+module _ (ls : Lists) where
+  pub send-least : networkOf ls .sendLeast ≡ getD (ls .delays) 0 0
+  unfolding networkOf
+  send-least = refl
+
+  pub send-greatest : networkOf ls .sendGreatest ≡ getD (ls .delays) 1 0
+  unfolding networkOf
+  send-greatest = refl
+
+  pub receive-least : networkOf ls .receiveLeast ≡ getD (ls .delays) 2 0
+  unfolding networkOf
+  receive-least = refl
+
+  pub receive-greatest : networkOf ls .receiveGreatest ≡ getD (ls .delays) 3 0
+  unfolding networkOf
+  receive-greatest = refl
+
+  pub systems-are : length (networkOf ls .systems) ≡ recordsIn ls 1
+  unfolding networkOf
+  systems-are = length-tabulate (systemIn ls) (recordsIn ls 1)
+
+  pub vls-are : length (networkOf ls .vls) ≡ recordsIn ls 2
+  unfolding networkOf
+  vls-are = length-tabulate (vlIn ls) (recordsIn ls 2)
+
+  pub streams-are : length (networkOf ls .streams) ≡ recordsIn ls 3
+  unfolding networkOf
+  streams-are = length-tabulate (streamIn ls) (recordsIn ls 3)
+
+  pub ports-are : length (networkOf ls .ports) ≡ recordsIn ls 4
+  unfolding networkOf
+  ports-are = length-tabulate (portIn ls) (recordsIn ls 4)
+
+  pub hops-are : length (networkOf ls .hops) ≡ recordsIn ls 5
+  unfolding networkOf
+  hops-are = length-tabulate (hopIn ls) (recordsIn ls 5)
+
+-- ---- end systems
+module _ (ls : Lists) (i : ℕ) where
+  pub system-past : recordsIn ls 1 ≤ i → systemAt (networkOf ls) i ≡ noSystem
+  system-past h = List·getD-eq-default (networkOf ls .systems) noSystem {n = i} (omega (arith, systems-are ls))
+
+  module _ (h : i < recordsIn ls 1) where
+    pub system-per-byte : systemAt (networkOf ls) i .perByte ≡ ticksAt (numberAt ls 1 i 0)
+    unfolding networkOf systemIn
+    system-per-byte = ap (λ (x : EndSystem). x .perByte) (tabulate-at (systemIn ls) (recordsIn ls 1) i noSystem h)
+
+-- ---- VLs
+module _ (ls : Lists) (i : ℕ) where
+  pub vl-past : recordsIn ls 2 ≤ i → vlAt (networkOf ls) i ≡ noVl
+  vl-past h = List·getD-eq-default (networkOf ls .vls) noVl {n = i} (omega (arith, vls-are ls))
+
+  module _ (h : i < recordsIn ls 2) where
+    vl-there : vlAt (networkOf ls) i ≡ vlIn ls i
+    unfolding networkOf
+    vl-there = tabulate-at (vlIn ls) (recordsIn ls 2) i noVl h
+
+    pub vl-system : vlAt (networkOf ls) i .system ≡ numberAt ls 2 i 0
+    unfolding vlIn
+    vl-system = ap (λ (x : Vl). x .system) vl-there
+
+    pub vl-gap : vlAt (networkOf ls) i .gap ≡ perMs * numberAt ls 2 i 1
+    unfolding vlIn
+    vl-gap = ap (λ (x : Vl). x .gap) vl-there
+
+    pub vl-sub-links : vlAt (networkOf ls) i .subLinks ≡ numberAt ls 2 i 2
+    unfolding vlIn
+    vl-sub-links = ap (λ (x : Vl). x .subLinks) vl-there
+
+    pub vl-lmax : vlAt (networkOf ls) i .lmax ≡ numberAt ls 2 i 3
+    unfolding vlIn
+    vl-lmax = ap (λ (x : Vl). x .lmax) vl-there
+
+-- ---- streams
+module _ (ls : Lists) (i : ℕ) where
+  pub stream-past : recordsIn ls 3 ≤ i → streamAt (networkOf ls) i ≡ noStream
+  stream-past h = List·getD-eq-default (networkOf ls .streams) noStream {n = i} (omega (arith, streams-are ls))
+
+  module _ (h : i < recordsIn ls 3) where
+    stream-there : streamAt (networkOf ls) i ≡ streamIn ls i
+    unfolding networkOf
+    stream-there = tabulate-at (streamIn ls) (recordsIn ls 3) i noStream h
+
+    pub stream-vl : streamAt (networkOf ls) i .vl ≡ numberAt ls 3 i 0
+    unfolding streamIn
+    stream-vl = ap (λ (x : Stream). x .vl) stream-there
+
+    pub stream-sub-link : streamAt (networkOf ls) i .subLink ≡ numberAt ls 3 i 1
+    unfolding streamIn
+    stream-sub-link = ap (λ (x : Stream). x .subLink) stream-there
+
+    pub stream-sampling : streamAt (networkOf ls) i .sampling ≡ eqb (numberAt ls 3 i 2) 1
+    unfolding streamIn
+    stream-sampling = ap (λ (x : Stream). x .sampling) stream-there
+
+    pub stream-size : streamAt (networkOf ls) i .size ≡ numberAt ls 3 i 3
+    unfolding streamIn
+    stream-size = ap (λ (x : Stream). x .size) stream-there
+
+    pub stream-least-size : streamAt (networkOf ls) i .leastSize ≡ numberAt ls 3 i 4
+    unfolding streamIn
+    stream-least-size = ap (λ (x : Stream). x .leastSize) stream-there
+
+    pub stream-period : streamAt (networkOf ls) i .period ≡ numberAt ls 3 i 5
+    unfolding streamIn
+    stream-period = ap (λ (x : Stream). x .period) stream-there
+
+    pub stream-jitter : streamAt (networkOf ls) i .jitter ≡ numberAt ls 3 i 6
+    unfolding streamIn
+    stream-jitter = ap (λ (x : Stream). x .jitter) stream-there
+
+-- ---- ports
+module _ (ls : Lists) (i : ℕ) where
+  pub port-past : recordsIn ls 4 ≤ i → portAt (networkOf ls) i ≡ noPort
+  port-past h = List·getD-eq-default (networkOf ls .ports) noPort {n = i} (omega (arith, ports-are ls))
+
+  module _ (h : i < recordsIn ls 4) where
+    port-there : portAt (networkOf ls) i ≡ portIn ls i
+    unfolding networkOf
+    port-there = tabulate-at (portIn ls) (recordsIn ls 4) i noPort h
+
+    pub port-per-byte : portAt (networkOf ls) i .perByte ≡ ticksAt (numberAt ls 4 i 0)
+    unfolding portIn
+    port-per-byte = ap (λ (x : Port). x .perByte) port-there
+
+    pub port-delay-least : portAt (networkOf ls) i .delayLeast ≡ numberAt ls 4 i 1
+    unfolding portIn
+    port-delay-least = ap (λ (x : Port). x .delayLeast) port-there
+
+    pub port-delay-greatest : portAt (networkOf ls) i .delayGreatest ≡ numberAt ls 4 i 2
+    unfolding portIn
+    port-delay-greatest = ap (λ (x : Port). x .delayGreatest) port-there
+
+-- ---- hops
+module _ (ls : Lists) (i : ℕ) where
+  pub hop-past : recordsIn ls 5 ≤ i → hopAt (networkOf ls) i ≡ noHop
+  hop-past h = List·getD-eq-default (networkOf ls .hops) noHop {n = i} (omega (arith, hops-are ls))
+
+  module _ (h : i < recordsIn ls 5) where
+    hop-there : hopAt (networkOf ls) i ≡ hopIn ls i
+    unfolding networkOf
+    hop-there = tabulate-at (hopIn ls) (recordsIn ls 5) i noHop h
+
+    pub hop-vl : hopAt (networkOf ls) i .vl ≡ numberAt ls 5 i 0
+    unfolding hopIn
+    hop-vl = ap (λ (x : Hop). x .vl) hop-there
+
+    pub hop-port : hopAt (networkOf ls) i .port ≡ numberAt ls 5 i 1
+    unfolding hopIn
+    hop-port = ap (λ (x : Hop). x .port) hop-there
+
+    pub hop-parent : hopAt (networkOf ls) i .parent ≡ parentOf (numberAt ls 5 i 2)
+    unfolding hopIn
+    hop-parent = ap (λ (x : Hop). x .parent) hop-there
+
+-- a stored 0 is no parent, and another number the row before it
+pub parent-none : parentOf 0 ≡ none
+unfolding parentOf
+parent-none = refl
+
+pub parent-some : (g : ℕ) → parentOf (suc g) ≡ some g
+unfolding parentOf
+parent-some g = refl
+
+-- ---- the same of the lists themselves: a record of a section has `listed` numbers
+module _ (ls : Lists) where
+  pub systems-records : recordsIn ls 1 ≡ length (ls .systems)
+  unfolding recordsIn listFor
+  systems-records = rw (listed-is 1) (omega arith)
+
+  pub vls-records : recordsIn ls 2 ≡ length (ls .vls) / 4
+  unfolding recordsIn listFor
+  vls-records = rw (listed-is 2)
+
+  pub streams-records : recordsIn ls 3 ≡ length (ls .streams) / 7
+  unfolding recordsIn listFor
+  streams-records = rw (listed-is 3)
+
+  pub ports-records : recordsIn ls 4 ≡ length (ls .ports) / 3
+  unfolding recordsIn listFor
+  ports-records = rw (listed-is 4)
+
+  pub hops-records : recordsIn ls 5 ≡ length (ls .hops) / 3
+  unfolding recordsIn listFor
+  hops-records = rw (listed-is 5)
+
+module _ (ls : Lists) (i k : ℕ) where
+  pub system-number : numberAt ls 1 i k ≡ getD (ls .systems) (i * 1 + k) 0
+  unfolding numberAt listFor
+  system-number = rw (listed-is 1)
+
+  pub vl-number : numberAt ls 2 i k ≡ getD (ls .vls) (i * 4 + k) 0
+  unfolding numberAt listFor
+  vl-number = rw (listed-is 2)
+
+  pub stream-number : numberAt ls 3 i k ≡ getD (ls .streams) (i * 7 + k) 0
+  unfolding numberAt listFor
+  stream-number = rw (listed-is 3)
+
+  pub port-number : numberAt ls 4 i k ≡ getD (ls .ports) (i * 3 + k) 0
+  unfolding numberAt listFor
+  port-number = rw (listed-is 4)
+
+  pub hop-number : numberAt ls 5 i k ≡ getD (ls .hops) (i * 3 + k) 0
+  unfolding numberAt listFor
+  hop-number = rw (listed-is 5)
+
+-- the first number of a record
+pub first-number : (l : List ℕ) (a : ℕ) → getD l (a + 0) 0 ≡ getD l a 0
+first-number l a = ap (λ (x : ℕ). getD l x 0) (add-zero a)

@@ -1,0 +1,133 @@
+-- The table that lists are packed to, where each row can be read back: it has the lists' counts, rows and records, so it is sound and unpacks to the lists.
+-- Assumes nothing.
+use mathlib.Core.Path.{_≡_, refl, sym, ap, _∙_}
+use mathlib.Core.List.{List}
+use mathlib.Core.Option.{none}
+use Prim.Native.Nat.{ℕ, zero, suc, _+_, _*_, _^_, _≤_, _<_}
+use native.Mathlib.Omega.{arith}
+use lib.ListN.{length, getD, take, drop}
+use lib.Seq.{take-all}
+use Rattle.base.specs.Tabulate.{total}
+use Rattle.bits.specs.Rows.{readAll, Fit}
+use Rattle.layout.specs.declared.Way.the-variants.{Reading, Writing}
+use Rattle.layout.specs.Layout.{layout, widths}
+use Rattle.layout.specs.Rows.{converted, listed, rowFault}
+use Rattle.layout.proofs.LayoutLaws.{whole-bytes, size-is}
+use Rattle.layout.proofs.RoomLaws.{room-yes, row-there}
+use Rattle.table.specs.Sections.{headerRow, rows, from, row, recordOf, records}
+use Rattle.table.specs.Unpack.{needs, delaysOf}
+use Rattle.table.specs.Write.{Lists, listFor, recordsIn, headerFor, packed}
+use Rattle.table.specs.RoundTrip.{unpacked, lengthsOf}
+use Rattle.table.proofs.AnswerLaws.{Writable, Sound, Holds}
+use Rattle.table.proofs.SectionLaws.{start, start-same, start-le, from-is, row-read, records-are}
+use Rattle.table.proofs.WriteLaws.{count, meant, storedRow, size-is-start, length-packed, Fits, row-packed, record-given}
+use Rattle.table.proofs.HeaderLaws.{header-at, header-stays, header-count, header-delays, counts-short}
+
+-- a row as it is stored, read back: it fits its fields, has no fault, and means what it meant
+pub record Back (ls : Lists) (s i : ℕ) : Type 0 where
+  pub same : converted Reading (layout s) (storedRow ls s i) ≡ meant ls s i
+  pub fit : Fit (widths s) (storedRow ls s i)
+  pub good : rowFault Reading s (storedRow ls s i) ≡ none
+
+module _ (ls : Lists) (w : Writable ls) (back : (s i : ℕ) → s < 6 → i < count ls s → Back ls s i) where
+  fits : Fits ls
+  fits s i h l = back s i h l .fit
+
+  long : length (packed ls) ≡ start (count ls) 6
+  long = length-packed ls ∙ size-is-start ls
+
+  one-header : 0 < count ls 0
+  unfolding count
+  one-header = omega arith
+
+  small : length (packed ls) ≤ 2 ^ 32
+  unfolding meant
+  small = rw long (counts-short ls (fits 0 0 (omega arith) one-header) (w .header))
+
+  -- the header takes 14 bytes
+  pub header-fits : 14 ≤ length (packed ls)
+  unfolding start count
+  header-fits = omega (arith, long, start-le (count ls) 1 6 (omega arith), size-is 0)
+
+  header-row : headerRow (packed ls) ≡ storedRow ls 0 0
+  unfolding start
+  header-row =
+      let here : 0 ≡ 8 * start (count ls) 0 + 0 * total (widths 0) = omega arith in
+      header-at (packed ls) small
+      ∙ row-there (packed ls) 0 0 (room-yes (length (packed ls)) 0 (widths 0) small (omega (arith, header-fits, whole-bytes 0, size-is 0)))
+      ∙ ap (λ (a : ℕ). readAll (packed ls) a (widths 0)) here
+      ∙ row-packed ls fits 0 0 (omega arith) one-header
+
+  -- ---- the counts
+  pub rows-packed : (s : ℕ) → s < 6 → rows (packed ls) s ≡ count ls s
+  unfolding rows count meant
+  rows-packed zero h = refl
+  rows-packed (suc s) h =
+      ap (λ (r : List ℕ). getD r (suc s) 0) header-row
+      ∙ header-stays Writing (headerFor ls) (w .header) (suc s) (omega arith)
+      ∙ header-count ls (suc s) h
+
+  exact : length (packed ls) ≡ from (packed ls) 6
+  exact = long ∙ sym (start-same (rows (packed ls)) (count ls) 6 rows-packed) ∙ sym (from-is (packed ls) 6)
+
+  -- ---- the rows
+  row-is : (s i : ℕ) → s < 6 → i < count ls s → row (packed ls) s i ≡ storedRow ls s i
+  row-is s i h l =
+      row-read (packed ls) (omega (arith, exact)) small s i h (rw (rows-packed s h) l)
+      ∙ ap (λ (a : ℕ). readAll (packed ls) (8 * a + i * total (widths s)) (widths s))
+      (start-same (rows (packed ls)) (count ls) s (λ k m. rows-packed k (omega arith)))
+      ∙ row-packed ls fits s i h l
+
+  pub packed-sound : Sound (packed ls)
+  unfolding count
+  packed-sound = record {
+    header = rw header-row (back 0 0 (omega arith) one-header .good);
+    exact = exact;
+    good = λ s i h l. let low = rw (rows-packed (suc s) h) at l in rw (row-is (suc s) i h low) (back (suc s) i h low .good);
+  }
+
+  -- ---- the lists
+  list-back : (s : ℕ) → suc s < 6 → records (packed ls) (suc s) (rows (packed ls) (suc s)) ≡ listFor ls (suc s)
+  unfolding recordOf count
+  list-back s h =
+      let n = rows-packed (suc s) h in
+      rw n
+      (records-are (packed ls) (suc s) (listFor ls (suc s)) (recordsIn ls (suc s))
+      (λ i l.
+      ap (λ (r : List ℕ). take (listed (suc s)) (converted Reading (layout (suc s)) r)) (row-is (suc s) i h l)
+      ∙ ap (take (listed (suc s))) (back (suc s) i h l .same)
+      ∙ record-given ls w s i h l)
+      ∙ take-all (recordsIn ls (suc s) * listed (suc s)) (listFor ls (suc s)) (omega (arith, w .full s h)))
+
+  delays-back : delaysOf (packed ls) ≡ ls .delays
+  unfolding delaysOf meant
+  delays-back =
+      ap (λ (r : List ℕ). take 4 (drop 6 (converted Reading (layout 0) r))) header-row
+      ∙ ap (λ (r : List ℕ). take 4 (drop 6 r)) (back 0 0 (omega arith) one-header .same)
+      ∙ header-delays ls (w .delays)
+
+  pub same-lists : unpacked (packed ls) ≡ ls
+  unfolding unpacked listFor
+  same-lists = λ i. record {
+    delays = delays-back i;
+    systems = list-back 0 (omega arith) i;
+    vls = list-back 1 (omega arith) i;
+    streams = list-back 2 (omega arith) i;
+    ports = list-back 3 (omega arith) i;
+    hops = list-back 4 (omega arith) i;
+  }
+
+  needs-are : (s : ℕ) → suc s < 6 → needs (packed ls) (suc s) ≤ length (listFor ls (suc s))
+  unfolding needs count
+  needs-are s h = omega (arith, w .full s h, ap (λ (n : ℕ). n * listed (suc s)) (rows-packed (suc s) h))
+
+  pub lists-hold : Holds (packed ls) (lengthsOf ls)
+  unfolding lengthsOf listFor
+  lists-hold = record {
+    delays = omega (arith, w .delays);
+    systems = needs-are 0 (omega arith);
+    vls = needs-are 1 (omega arith);
+    streams = needs-are 2 (omega arith);
+    ports = needs-are 3 (omega arith);
+    hops = needs-are 4 (omega arith);
+  }

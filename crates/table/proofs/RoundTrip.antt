@@ -1,0 +1,43 @@
+-- The order, demand 2: tables and lists give each other back, as each row does; so accepted bytes are determined by their fields.
+-- Assumes nothing.
+use mathlib.Core.Path.{sym, ap, _∙_}
+use Prim.Native.Nat.{ℕ, _+_, _*_, _<_}
+use lib.ListN.{length}
+use native.Mathlib.Omega.{arith}
+use Rattle.layout.specs.Layout.{size}
+use Rattle.layout.proofs.RoomLaws.{row-fits}
+use Rattle.layout.proofs.BackLaws.{read-written, read-writable, written-fits, written-readable, written-read}
+use Rattle.table.specs.Sections.{rows, from, row}
+use Rattle.table.specs.Write.{packed}
+use Rattle.table.specs.RoundTrip.{unpacked, lengthsOf, Unpack-after-write, Write-after-unpack, Determined}
+use Rattle.table.proofs.AnswerLaws.{unpack-was, unpack-is, write-was, write-is}
+use Rattle.table.proofs.WriteLaws.{count, meant, good-rows, length-meant}
+use Rattle.table.proofs.UnpackLaws.{Again, sound-rows, size-unpacked, same-bytes, writable}
+use Rattle.table.proofs.PackedLaws.{Back, header-fits, packed-sound, same-lists, lists-hold}
+
+pub unpack-after-write : Unpack-after-write
+unpack-after-write ls room e =
+    let w = write-was ls room e in
+    let back : (s i : ℕ) → s < 6 → i < count ls s → Back ls s i =
+    λ s i h l.
+    let ok = good-rows ls w s i h l in
+    record {
+      same = written-read s (meant ls s i) ok (length-meant ls w s i h l);
+      fit = written-fits s (meant ls s i) ok;
+      good = written-readable s (meant ls s i) ok;
+    } in
+    (unpack-is (packed ls) (lengthsOf ls) (packed-sound ls w back) (header-fits ls w back) (lists-hold ls w back), same-lists ls w back)
+
+pub write-after-unpack : Write-after-unpack
+unfolding row
+write-after-unpack bytes n b e =
+    let sound = unpack-was bytes n e in
+    let again : (s i : ℕ) → s < 6 → i < rows bytes s → Again bytes s i =
+    λ s i h l.
+    let ok = sound-rows bytes sound s i h l in
+    let fit = row-fits bytes (8 * (from bytes s + i * size s)) s in
+    record { same = read-written s (row bytes s i) ok fit; good = read-writable s (row bytes s i) ok fit } in
+    (write-is (unpacked bytes) (length bytes) (writable bytes sound again) (omega (arith, size-unpacked bytes sound)), same-bytes bytes sound again b)
+
+pub determined : Determined
+determined s t n m bs bt es et e = sym (write-after-unpack s n bs es .1) ∙ ap packed e ∙ write-after-unpack t m bt et .1

@@ -1,0 +1,152 @@
+-- The sections of a table and their rows: each row is where the rows before it end, and the records are what the rows mean, as padding means 0.
+-- Assumes nothing.
+use mathlib.Core.Path.{_≡_, refl, sym, ap, ap₂, _∙_}
+use mathlib.Core.Bool.{Bool, true, false}
+use mathlib.Core.List.{List, [], _∷_, _++_}
+use mathlib.Core.Logic.{⊎-elim}
+use mathlib.Core.Option.{none, some}
+use Prim.Native.Nat.{ℕ, zero, suc, _+_, _-_, _*_, _^_, _≤_, _<_}
+use native.Mathlib.Nat.{le-of-suc-le-suc, eq-or-lt-of-le, mul-le-mul-right}
+use native.Mathlib.Omega.{arith}
+use lib.Dec.{eqb}
+use lib.ListN.{length, getD, take, drop, replicate, length-append, length-drop, length-replicate, getD-replicate, take-append-drop}
+use lib.Seq.{ext-getD, getD-drop, length-take-le, take-all, drop-at, drop-append-le, take-append-le, take-add}
+use Rattle.base.specs.Pick.{pick}
+use Rattle.base.specs.Tabulate.{tabulate, total}
+use Rattle.bits.specs.Rows.{readAll, readRows, Section, sectionBits, tableBits, readTable}
+use Rattle.bits.proofs.TableLaws.{bits-more, table-more}
+use Rattle.layout.specs.declared.Kind.{Kind}
+use Rattle.layout.specs.declared.Way.the-variants.{Reading}
+use Rattle.layout.specs.Layout.{layout, blank, widths, size}
+use Rattle.layout.specs.Fields.{meaning, convert}
+use Rattle.base.specs.Tests.{numberOr0}
+use Rattle.layout.specs.Rows.{converted, listed}
+use Rattle.layout.proofs.LayoutLaws.{listed-fields, unlisted, whole-bytes}
+use Rattle.layout.proofs.RowLaws.{length-converted, converted-at}
+use Rattle.layout.proofs.RoomLaws.{room-yes, row-there}
+use Rattle.table.specs.Sections.{rows, from, row, recordOf, records}
+
+-- ---- padding means 0
+padding-means : (s k n : ℕ) → listed s ≤ k → numberOr0 (convert Reading (getD (layout s) k blank) n) ≡ 0
+unfolding convert meaning numberOr0
+padding-means s k n h = ap (λ (kind : Kind). numberOr0 (meaning kind n)) (unlisted s k h) ∙ go (eqb n 0)
+  where
+    go : (t : Bool) → numberOr0 (pick t (some 0) none) ≡ 0
+    go true = refl
+    go false = refl
+
+-- so a row that is meant is what the lists have of it, and zeros
+pub padded : (s : ℕ) (raw : List ℕ)
+    → take (listed s) (converted Reading (layout s) raw) ++ replicate (length (layout s) - listed s) 0 ≡ converted Reading (layout s) raw
+padded s raw =
+    let vs = converted Reading (layout s) raw in
+    let n = length-converted Reading (layout s) raw in
+    let m = length-drop (listed s) vs in
+    let zeros : drop (listed s) vs ≡ replicate (length (layout s) - listed s) 0 =
+    ext-getD 0 (drop (listed s) vs) (replicate (length (layout s) - listed s) 0)
+    (m ∙ rw n (sym (length-replicate {A = ℕ} (length (layout s) - listed s) 0)))
+    (λ i h.
+    getD-drop (listed s) vs i 0
+    ∙ converted-at Reading (layout s) raw (listed s + i) (omega arith)
+    ∙ padding-means s (listed s + i) (getD raw (listed s + i) 0) (omega arith)
+    ∙ sym (getD-replicate (length (layout s) - listed s) i 0 0 (omega arith))) in
+    ap (λ (zs : List ℕ). take (listed s) vs ++ zs) (sym zeros) ∙ take-append-drop (listed s) vs
+
+-- ---- sections by their numbers, where a function says how many rows each has
+abbrev pub sectionAt : (ℕ → ℕ) → ℕ → Section
+sectionAt count s = record { widths = widths s; count = count s }
+
+-- the byte where a section begins
+unfoldable pub start : (ℕ → ℕ) → ℕ → ℕ
+start count zero = 0
+start count (suc s) = start count s + count s * size s
+
+pub start-same : (f g : ℕ → ℕ) (n : ℕ) → ((s : ℕ) → s < n → f s ≡ g s) → start f n ≡ start g n
+unfolding start
+start-same f g zero same = refl
+start-same f g (suc n) same = rw (start-same f g n (λ s h. same s (omega arith)), same n (omega arith))
+
+pub start-le : (count : ℕ → ℕ) (s t : ℕ) → s ≤ t → start count s ≤ start count t
+unfolding start
+start-le count s zero h = let e : s ≡ 0 = omega arith in rw e (omega arith)
+start-le count s (suc t) h = ⊎-elim
+    (λ (e : s ≡ suc t). rw e (omega arith))
+    (λ (l : s < suc t). omega (arith, start-le count s t (le-of-suc-le-suc l)))
+    (eq-or-lt-of-le h)
+
+pub bits-are : (count : ℕ → ℕ) (n : ℕ) → tableBits (tabulate (sectionAt count) n) ≡ 8 * start count n
+unfolding start tableBits tabulate sectionBits
+bits-are count zero = refl
+bits-are count (suc n) =
+    omega (arith, bits-more (tabulate (sectionAt count) n) (sectionAt count n), bits-are count n, ap (λ (m : ℕ). count n * m) (whole-bytes n))
+
+-- the rows of a section
+abbrev pub rowsAt : List ℕ → (ℕ → ℕ) → ℕ → List (List ℕ)
+rowsAt bytes count s = readRows bytes (8 * start count s) (widths s) (count s)
+
+pub table-read : (bytes : List ℕ) (count : ℕ → ℕ) (n : ℕ) → readTable bytes 0 (tabulate (sectionAt count) n) ≡ tabulate (rowsAt bytes count) n
+unfolding readTable tabulate
+table-read bytes count zero = refl
+table-read bytes count (suc n) =
+    let here : 0 + tableBits (tabulate (sectionAt count) n) ≡ 8 * start count n = omega (arith, bits-are count n) in
+    table-more bytes 0 (tabulate (sectionAt count) n) (sectionAt count n)
+    ∙ ap₂ (λ (r : List (List (List ℕ))) (a : ℕ). r ++ (readRows bytes a (widths n) (count n) ∷ [])) (table-read bytes count n) here
+
+module _ (bytes : List ℕ) where
+  pub from-is : (s : ℕ) → from bytes s ≡ start (rows bytes) s
+  unfolding from start
+  from-is zero = refl
+  from-is (suc s) = rw (from-is s)
+
+  -- ---- a row that is there
+  pub row-read : from bytes 6 ≤ length bytes → length bytes ≤ 2 ^ 32 → (s i : ℕ) → s < 6 → i < rows bytes s
+      → row bytes s i ≡ readAll bytes (8 * start (rows bytes) s + i * total (widths s)) (widths s)
+  unfolding row start
+  row-read fits short s i h l =
+      let a = 8 * (from bytes s + i * size s) in
+      let begins = from-is s in
+      let ends = from-is 6 in
+      let next = start-le (rows bytes) (suc s) 6 h in
+      let bits = whole-bytes s in
+      let more = mul-le-mul-right (size s) l in
+      let here : a ≡ 8 * start (rows bytes) s + i * total (widths s) = omega (arith, ap (λ (n : ℕ). i * n) bits) in
+      row-there bytes a s (room-yes (length bytes) a (widths s) short (omega arith)) ∙ ap (λ (b : ℕ). readAll bytes b (widths s)) here
+
+  -- ---- the records
+  length-record : (s i : ℕ) → length (recordOf bytes s i) ≡ listed s
+  unfolding recordOf
+  length-record s i =
+      length-take-le (listed s) (converted Reading (layout s) (row bytes s i))
+      (omega (arith, length-converted Reading (layout s) (row bytes s i), listed-fields s .0))
+
+  pub length-records : (s n : ℕ) → length (records bytes s n) ≡ n * listed s
+  unfolding records
+  length-records s zero = omega arith
+  length-records s (suc n) = omega (arith, length-append (records bytes s n) (recordOf bytes s n), length-records s n, length-record s n)
+
+  pub record-at : (s n i : ℕ) → i < n → take (listed s) (drop (i * listed s) (records bytes s n)) ≡ recordOf bytes s i
+  unfolding records
+  record-at s zero i h = absurd (omega arith)
+  record-at s (suc n) i h =
+      let all = records bytes s n in
+      let last = recordOf bytes s n in
+      let long = length-records s n in
+      ⊎-elim
+      (λ (e : suc i ≡ suc n).
+      let same : i ≡ n = omega arith in
+      rw same (ap (λ (l : List ℕ). take (listed s) l) (drop-at all last (n * listed s) long) ∙ take-all (listed s) last (omega (arith, length-record s n))))
+      (λ (l : suc i < suc n).
+      let more = mul-le-mul-right (listed s) (le-of-suc-le-suc l) in
+      ap (λ (l : List ℕ). take (listed s) l) (drop-append-le (i * listed s) all last (omega arith))
+      ∙ take-append-le (listed s) (drop (i * listed s) all) last (omega (arith, length-drop (i * listed s) all))
+      ∙ record-at s n i (le-of-suc-le-suc l))
+      (eq-or-lt-of-le h)
+
+  -- records that are the parts of a list are its front
+  pub records-are : (s : ℕ) (list : List ℕ) (n : ℕ) → ((i : ℕ) → i < n → recordOf bytes s i ≡ take (listed s) (drop (i * listed s) list))
+      → records bytes s n ≡ take (n * listed s) list
+  unfolding records
+  records-are s list zero same = let e : 0 * listed s ≡ 0 = omega arith in rw e
+  records-are s list (suc n) same =
+      let e : suc n * listed s ≡ n * listed s + listed s = omega arith in
+      rw e (ap₂ _++_ (records-are s list n (λ i h. same i (omega arith))) (same n (omega arith)) ∙ sym (take-add (n * listed s) (listed s) list))

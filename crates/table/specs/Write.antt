@@ -1,0 +1,120 @@
+-- 01, Answers by number: "The writer takes its counts from its lists and gives 2 (also for a list that is no whole number of records), 4 (also for a value wider than its field), 11." And what it leaves in the lent bytes.
+-- Assumes nothing.
+use Prim.Native.Nat.{ℕ, zero, suc, _+_, _-_, _*_, _/_, _%_}
+use mathlib.Core.Bool.{Bool, true, false, _&&_}
+use mathlib.Core.List.{List, [], _∷_, _++_}
+use mathlib.Core.Option.{Option, none, some}
+use mathlib.Core.Path.{_≡_}
+use lib.Dec.{leb, eqb}
+use lib.ListN.{length, getD, take, drop, replicate}
+use Rattle.base.specs.Pick.{pick}
+use Rattle.base.specs.Least.{leastFrom}
+use Rattle.bits.specs.Rows.{Section, putTable}
+use Rattle.layout.specs.declared.Way.the-variants.{Writing}
+use Rattle.layout.specs.Layout.{layout, widths, size}
+use Rattle.base.specs.Tests.{isSome, numberOr0}
+use Rattle.layout.specs.Rows.{converted, listed, rowFault}
+use Rattle.table.specs.declared.Answer.{Answer}
+use Rattle.table.specs.declared.Written.{Written}
+use Rattle.table.specs.Answers.{answer, firstGiven}
+use Rattle.table.specs.Sections.{lent}
+
+-- the lists that a table is written from, and that it is unpacked to
+pub record Lists : Type 0 where
+  pub delays : List ℕ
+  pub systems : List ℕ
+  pub vls : List ℕ
+  pub streams : List ℕ
+  pub ports : List ℕ
+  pub hops : List ℕ
+
+-- the list of a section
+unfoldable pub listFor : Lists → ℕ → List ℕ
+listFor ls section = getD ([] ∷ ls .systems ∷ ls .vls ∷ ls .streams ∷ ls .ports ∷ ls .hops ∷ []) section []
+
+-- "takes its counts from its lists"
+unfoldable pub recordsIn : Lists → ℕ → ℕ
+recordsIn ls section = length (listFor ls section) / listed section
+
+-- the header that the lists ask for: version 1, the counts, the delays, and padding
+unfoldable pub headerFor : Lists → List ℕ
+headerFor ls =
+    1 ∷ recordsIn ls 1 ∷ recordsIn ls 2 ∷ recordsIn ls 3 ∷ recordsIn ls 4 ∷ recordsIn ls 5 ∷ (ls .delays ++ (0 ∷ []))
+
+-- record i of a section, with padding of zero where it has padding
+unfoldable pub meantRow : Lists → ℕ → ℕ → List ℕ
+meantRow ls section i = take (listed section) (drop (i * listed section) (listFor ls section)) ++ replicate (length (layout section) - listed section) 0
+
+-- every list is a whole number of records: four delays, and for a section a multiple of its numbers
+unfoldable pub whole : Lists → Bool
+whole ls =
+    eqb (length (ls .delays)) 4
+    && (eqb (length (ls .vls) % listed 2) 0 && (eqb (length (ls .streams) % listed 3) 0 && (eqb (length (ls .ports) % listed 4) 0 && eqb (length (ls .hops) % listed 5) 0)))
+
+-- 2: a list that is no whole number of records, a count or a delay out of range
+unfoldable pub write2 : Lists → Option Answer
+write2 ls =
+    pick (whole ls)
+    (elim (rowFault Writing 0 (headerFor ls)) [ none ↦ none | some test ↦ some (answer 2 0 0 test) ])
+    (some (answer 2 0 0 0))
+
+-- 4: a value that is out of range, or wider than its field
+unfoldable pub badRecord : Lists → ℕ → Option ℕ
+badRecord ls section = leastFrom (λ i. isSome (rowFault Writing section (meantRow ls section i))) 0 (recordsIn ls section)
+
+unfoldable pub badList : Lists → Option ℕ
+badList ls = leastFrom (λ s. isSome (badRecord ls s)) 1 5
+
+unfoldable pub answerAtRecord : Lists → ℕ → ℕ → Answer
+answerAtRecord ls section i = answer 4 section i (numberOr0 (rowFault Writing section (meantRow ls section i)))
+
+unfoldable pub write4 : Lists → Option Answer
+write4 ls = elim (badList ls) [ none ↦ none | some s ↦ some (answerAtRecord ls s (numberOr0 (badRecord ls s))) ]
+
+-- the rows of a section as they are stored
+unfoldable pub storedRows : Lists → ℕ → ℕ → List (List ℕ)
+storedRows ls section zero = []
+storedRows ls section (suc n) = storedRows ls section n ++ (converted Writing (layout section) (meantRow ls section n) ∷ [])
+
+-- the sections of the table: the header's one row, and the rows of each list
+unfoldable pub sectionOf : Lists → ℕ → Section
+sectionOf ls section = record { widths = widths section; count = recordsIn ls section }
+
+unfoldable pub sections : Lists → List Section
+sections ls =
+    record { widths = widths 0; count = 1 } ∷ sectionOf ls 1 ∷ sectionOf ls 2 ∷ sectionOf ls 3 ∷ sectionOf ls 4 ∷ sectionOf ls 5 ∷ []
+
+unfoldable pub parts : Lists → List (List (List ℕ))
+parts ls =
+    (converted Writing (layout 0) (headerFor ls) ∷ [])
+    ∷ storedRows ls 1 (recordsIn ls 1)
+    ∷ storedRows ls 2 (recordsIn ls 2)
+    ∷ storedRows ls 3 (recordsIn ls 3)
+    ∷ storedRows ls 4 (recordsIn ls 4)
+    ∷ storedRows ls 5 (recordsIn ls 5)
+    ∷ []
+
+-- the bytes that the table takes
+unfoldable pub tableSize : Lists → ℕ
+tableSize ls =
+    size 0 + recordsIn ls 1 * size 1 + recordsIn ls 2 * size 2 + recordsIn ls 3 * size 3 + recordsIn ls 4 * size 4 + recordsIn ls 5 * size 5
+
+-- the table's bytes
+unfoldable pub packed : Lists → List ℕ
+packed ls = putTable (replicate (tableSize ls) 0) 0 (sections ls) (parts ls)
+
+-- "11: writer or unpacker: a lent result is too short"
+unfoldable pub write11 : Lists → ℕ → Option Answer
+write11 ls room = pick (leb (tableSize ls) room) none (some (answer 11 0 0 0))
+
+unfoldable pub writeAnswer : Lists → ℕ → Answer
+writeAnswer ls room = firstGiven (write2 ls ∷ write4 ls ∷ write11 ls room ∷ [])
+
+unfoldable pub writes : Lists → ℕ → Bool
+writes ls room = eqb (writeAnswer ls room .number) 0
+
+-- what the writer promises: its answer, the table's length, and what the lent bytes hold at the end
+pub record Writes (ls : Lists) (room : ℕ) (r : Written) (out : List ℕ) : Type 0 where
+  pub answer : r .answer ≡ writeAnswer ls room
+  pub length-is : r .length ≡ pick (writes ls room) (tableSize ls) 0
+  pub out-left : out ≡ pick (writes ls room) (lent room (packed ls)) (replicate room 0)
