@@ -141,219 +141,115 @@ fn unpacked(bytes: &[u8]) {
 
 // ---- one field of the whole case at a time: its first bit, its width, and the value that it is given
 
-const CASES: [usize; 186] = [
-    // header: version, counts, delays, padding
-    0,
-    8,
-    0,
-    0,
-    8,
-    2,
-    8,
-    8,
-    64,
-    8,
-    8,
-    65,
-    16,
-    12,
-    256,
-    16,
-    12,
-    257,
-    28,
-    12,
-    512,
-    28,
-    12,
-    513,
-    40,
-    8,
-    128,
-    40,
-    8,
-    129,
-    48,
-    12,
-    1_024,
-    48,
-    12,
-    1_025,
-    60,
-    12,
-    1_000,
-    60,
-    12,
-    1_001,
-    72,
-    12,
-    1_875,
-    72,
-    12,
-    1_876,
-    84,
-    12,
-    501,
-    96,
-    12,
-    499,
-    96,
-    12,
-    1_875,
-    96,
-    12,
-    1_876,
-    108,
-    4,
-    1,
-    // end system 0: speed, padding
-    112,
-    1,
-    1,
-    113,
-    7,
-    1,
-    // VL 1: end system, gap, sub-links, Lmax
-    144,
-    8,
-    1,
-    152,
-    3,
-    7,
-    155,
-    2,
-    3,
-    157,
-    11,
-    63,
-    157,
-    11,
-    64,
-    157,
-    11,
-    1_518,
-    157,
-    11,
-    1_519,
-    // stream 1: VL, sub-link, kind, M, least M, period, jitter, padding
-    272,
-    12,
-    2,
-    284,
-    2,
-    1,
-    286,
-    1,
-    0,
-    287,
-    14,
-    0,
-    287,
-    14,
-    470,
-    287,
-    14,
-    8_192,
-    287,
-    14,
-    8_193,
-    301,
-    14,
-    0,
-    301,
-    14,
-    469,
-    301,
-    14,
-    470,
-    315,
-    27,
-    12_499,
-    315,
-    27,
-    12_500,
-    315,
-    27,
-    125_000_000,
-    315,
-    27,
-    125_000_001,
-    342,
-    27,
-    125_000_000,
-    342,
-    27,
-    125_000_001,
-    369,
-    7,
-    64,
-    // port 0: speed, switch delay, padding
-    376,
-    1,
-    1,
-    377,
-    12,
-    1_250,
-    377,
-    12,
-    1_251,
-    389,
-    12,
-    874,
-    389,
-    12,
-    1_251,
-    401,
-    7,
-    1,
-    // hop 1: VL, port, parent
-    440,
-    12,
-    2,
-    440,
-    12,
-    0,
-    452,
-    8,
-    1,
-    460,
-    12,
-    1,
-    460,
-    12,
-    2,
-    460,
-    12,
-    3,
-    460,
-    12,
-    4_095,
-    // hop 0: VL, parent
-    408,
-    12,
-    1,
-    428,
-    12,
-    2,
-];
-
-fn changed(at: usize, width: usize, value: usize) {
+fn changed(at: usize, width: usize, value: u64) {
     let mut bytes = whole_case();
-    Cursor::new(at).put(&mut bytes, width, value as u64);
+    Cursor::new(at).put(&mut bytes, width, value);
     number(at as u64);
     text(b" ");
-    number(value as u64);
+    number(value);
     text(b": ");
     answer(table::check(&bytes));
 }
 
+// Version, counts, delays, padding.
+fn header_limits() {
+    changed(0, 8, 0);
+    changed(0, 8, 2);
+    changed(8, 8, 64);
+    changed(8, 8, 65);
+    changed(16, 12, 256);
+    changed(16, 12, 257);
+    changed(28, 12, 512);
+    changed(28, 12, 513);
+    changed(40, 8, 128);
+    changed(40, 8, 129);
+    changed(48, 12, 1_024);
+    changed(48, 12, 1_025);
+}
+
+// The header's delays and padding.
+fn delay_limits() {
+    changed(60, 12, 1_000);
+    changed(60, 12, 1_001);
+    changed(72, 12, 1_875);
+    changed(72, 12, 1_876);
+    changed(84, 12, 501);
+    changed(96, 12, 499);
+    changed(96, 12, 1_875);
+    changed(96, 12, 1_876);
+    changed(108, 4, 1);
+}
+
+// End system 0: speed, padding; VL 1: end system, gap, sub-links, Lmax.
+fn vl_limits() {
+    changed(112, 1, 1);
+    changed(113, 7, 1);
+    changed(144, 8, 1);
+    changed(152, 3, 7);
+    changed(155, 2, 3);
+    changed(157, 11, 63);
+    changed(157, 11, 64);
+    changed(157, 11, 1_518);
+    changed(157, 11, 1_519);
+}
+
+// Stream 1: VL, sub-link, kind, M, least M.
+fn stream_limits() {
+    changed(272, 12, 2);
+    changed(284, 2, 1);
+    changed(286, 1, 0);
+    changed(287, 14, 0);
+    changed(287, 14, 470);
+    changed(287, 14, 8_192);
+    changed(287, 14, 8_193);
+    changed(301, 14, 0);
+    changed(301, 14, 469);
+    changed(301, 14, 470);
+}
+
+// Stream 1: period, jitter, padding.
+fn period_limits() {
+    changed(315, 27, 12_499);
+    changed(315, 27, 12_500);
+    changed(315, 27, 125_000_000);
+    changed(315, 27, 125_000_001);
+    changed(342, 27, 125_000_000);
+    changed(342, 27, 125_000_001);
+    changed(369, 7, 64);
+}
+
+// Port 0: speed, switch delay, padding.
+fn port_limits() {
+    changed(376, 1, 1);
+    changed(377, 12, 1_250);
+    changed(377, 12, 1_251);
+    changed(389, 12, 874);
+    changed(389, 12, 1_251);
+    changed(401, 7, 1);
+}
+
+// Hop 1: VL, port, parent; hop 0: VL, parent.
+fn hop_limits() {
+    changed(440, 12, 2);
+    changed(440, 12, 0);
+    changed(452, 8, 1);
+    changed(460, 12, 1);
+    changed(460, 12, 2);
+    changed(460, 12, 3);
+    changed(460, 12, 4_095);
+    changed(408, 12, 1);
+    changed(428, 12, 2);
+}
+
 fn limits() {
     text(b"the whole case with one field changed: first bit, value: the reader's answer\n");
-    let mut i = 0;
-    while i < 62 {
-        changed(CASES[3 * i], CASES[3 * i + 1], CASES[3 * i + 2]);
-        i += 1;
-    }
+    header_limits();
+    delay_limits();
+    vl_limits();
+    stream_limits();
+    period_limits();
+    port_limits();
+    hop_limits();
 }
 
 // ---- lengths
