@@ -107,7 +107,7 @@ port-length : portLength whole (jitterOf whole) 0 ≡ some 2074
 unfolding portLength
 port-length = ap busyLength port-flows ∙ lengths .2
 
-busy : Busy whole
+pub busy : Busy whole
 busy = record { queue = queue; port = port }
   where
     queue : (s : ℕ) → s < 2 → Has (queueLength whole (streamAt whole s .vl) (streamAt whole s .subLink))

@@ -1,0 +1,230 @@
+-- 9, 10 and acceptance are exact: the tests over all sub-links and ports are the order's, as a sub-link without streams has the busy length 1 and the lower ports' figures give the hops of a port but one list of jitters.
+-- Assumes nothing.
+use Prim.Native.Nat.{ℕ, zero, suc, _≤_, _<_}
+use mathlib.Core.Bool.{Bool, true, false, _&&_, true≢false, not, and-eq-true-iff}
+use mathlib.Core.List.{List, [], _∷_, List·Memᴰ, List·Memᴰ·head}
+use mathlib.Core.Logic.{_↔_, Iff·trans, Iff·and}
+use mathlib.Core.Option.{Option, none, some}
+use mathlib.Core.Path.{_≡_, refl, sym, ap, ap₂, _∙_}
+use native.Mathlib.Omega.{arith}
+use borrow.Author.Tests.{eqb-true, not-true}
+use lib.Dec.{eqb}
+use lib.ListN.{length}
+use Rattle.base.specs.Least.{leastFrom}
+use Rattle.base.specs.Tests.{isSome, numberOr0}
+use Rattle.base.proofs.LeastLaws.{least-is, least-none, least-was, none-was, least-exists}
+use Rattle.base.proofs.TabulateLaws.{passing-member}
+use Rattle.base.proofs.TestLaws.{some-is, none-is, is-some-was, is-none-was}
+use Rattle.network.specs.Network.{Network, vlAt, streamAt, hopAt}
+use Rattle.network.specs.References.{References}
+use Rattle.station.specs.declared.Flow.{Flow}
+use Rattle.station.specs.Station.{load, limit, busyLength}
+use Rattle.station.proofs.Facts.{no-busy-length-is}
+use Rattle.table.specs.declared.Answer.{Answer}
+use Rattle.table.specs.Answers.{answer, accepted, firstGiven}
+use Rattle.table.specs.Read.{networkIn}
+use Rattle.table.proofs.ReadLaws.{read-references}
+use Rattle.rows.specs.Queues.{streamsOn, queueFlows, queueLength}
+use Rattle.rows.specs.Ports.{portFlows, portLength, portFigure, childJitter, jitterOf, figureOf}
+use Rattle.rows.specs.Refusals.{endlessSubLink, endlessVl, endless, endlessPort}
+use Rattle.rows.proofs.PortLaws.{port-flows-same, port-figure-same, figures-of}
+use Rattle.analysis.specs.Analysis.{refusedAt, answer9, answer10, analysisAnswer}
+use Rattle.analysis.specs.Exact.{Passed, NoLength, EndlessQueue, EndlessPort, Jitters-exist, One-list-of-flows, FirstOf, NoneOf, FirstVl, NoVl, FirstPort, NoPort, Exact-9, Exact-10, Exact-accepted, OneOfThree, is-9, is-10, is-accepted, Exact-three}
+use Rattle.analysis.specs.Judging.{judged}
+use Rattle.analysis.proofs.JudgeLaws.{analysis-judged}
+
+-- ---- flows without a busy length
+endless-flows : (fs : List Flow) → (not (isSome (busyLength fs)) ≡ true) ↔ NoLength fs
+unfolding limit
+endless-flows fs = (
+  λ e. record { fails = no-busy-length-is fs .0 (is-none-was (busyLength fs) (not-true (isSome (busyLength fs)) e)) },
+  λ n. ap not (none-is (busyLength fs) (no-busy-length-is fs .1 (n .fails))),
+)
+
+-- ---- the sub-links of a VL
+module _ (net : Network) (v : ℕ) where
+  stream-on : (k s : ℕ) → List·Memᴰ s (streamsOn net v k) → (s < length (net .streams)) × (streamAt net s .vl ≡ v) × (streamAt net s .subLink ≡ k)
+  unfolding streamsOn
+  stream-on k s m =
+      let of-vl = eqb (streamAt net s .vl) v in
+      let of-sub-link = eqb (streamAt net s .subLink) k in
+      let is = passing-member (λ s. eqb (streamAt net s .vl) v && eqb (streamAt net s .subLink) k) (length (net .streams)) s m in
+      let both = and-eq-true-iff of-vl of-sub-link .0 (is .1) in
+      (is .0, eqb-true _ _ (both .0), eqb-true _ _ (both .1))
+
+  -- one that has no busy length has a stream: without any the length 1 serves
+  endless-has-stream : (k : ℕ) → k < vlAt net v .subLinks → NoLength (queueFlows net v k) → EndlessQueue net v
+  unfolding queueFlows load
+  endless-has-stream k h none-serves = go (streamsOn net v k) refl
+    where
+      go : (ss : List ℕ) → streamsOn net v k ≡ ss → EndlessQueue net v
+      go [] e = absurd (omega (arith, rw e at (none-serves .fails 1 (omega arith) (omega arith))))
+      go (s ∷ ss) e =
+          let is = stream-on k s (rw e (List·Memᴰ·head refl)) in
+          record {
+            sub-link = k;
+            there = h;
+            stream = s;
+            stream-there = is .0;
+            stream-vl = is .1;
+            stream-sub-link = is .2;
+            no-length = none-serves;
+          }
+
+  endless-queue : (isSome (endlessSubLink net v) ≡ true) ↔ EndlessQueue net v
+  unfolding endlessSubLink queueLength
+  endless-queue = (
+    λ e. (let k = numberOr0 (endlessSubLink net v) in
+        let was = least-was (λ k. not (isSome (queueLength net v k))) 0 (vlAt net v .subLinks) k (is-some-was (endlessSubLink net v) e) in
+        endless-has-stream k (omega (arith, was .high)) (endless-flows (queueFlows net v k) .0 (was .passes))),
+    λ q. (let there = least-exists (λ k. not (isSome (queueLength net v k))) 0 (vlAt net v .subLinks) (q .sub-link) (omega arith) (omega (arith, q .there))
+        (endless-flows (queueFlows net v (q .sub-link)) .1 (q .no-length)) in
+        some-is (endlessSubLink net v) (there .at) (there .is)),
+  )
+
+-- ---- the ports
+pub jitters-exist : Jitters-exist
+unfolding figureOf
+jitters-exist net refs p =
+    let keeps = figures-of net refs in
+    record { figure-is = λ q b. refl; root-is = λ h l b e. keeps .root-is h l e; child-is = λ h g l b e. keeps .child-is h g l e }
+
+-- by induction on the port number: a hop's jitter is of its parent's, which is on a lower port, and of that port's figure
+pub one-list-of-flows : One-list-of-flows
+unfolding figureOf
+one-list-of-flows net refs p figureAt jitterAt lower = port-flows-same net jitterAt (jitterOf net) p (λ h l e. same (suc p) h l (omega arith) (omega arith))
+  where
+    same : (n h : ℕ) → h < length (net .hops) → hopAt net h .port < n → n ≤ suc p → jitterAt h ≡ jitterOf net h
+    same zero h l k b = absurd (omega arith)
+    same (suc n) h l k b = go (λ g. same n g) (hopAt net h .parent) refl
+      where
+        go : ((g : ℕ) → g < length (net .hops) → hopAt net g .port < n → n ≤ suc p → jitterAt g ≡ jitterOf net g)
+            → (o : Option ℕ) → hopAt net h .parent ≡ o → jitterAt h ≡ jitterOf net h
+        go ih none e = lower .root-is h l (omega arith) e ∙ sym (figures-of net refs .root-is h l e)
+        go ih (some g) e =
+            let row : g < length (net .hops) = omega (arith, refs .parent-earlier h g l e) in
+            let low = refs .parent-port h g l e in
+            lower .child-is h g l (omega arith) e
+            ∙ ap₂ (childJitter net h g) (ih g row (omega arith) (omega arith))
+            (lower .figure-is (hopAt net g .port) (omega arith)
+            ∙ port-figure-same net jitterAt (jitterOf net) (hopAt net g .port) (λ i a c. ih i a (omega arith) (omega arith)))
+            ∙ sym (figures-of net refs .child-is h g l e)
+
+endless-port : (net : Network) → References net → (p : ℕ) → (endless net p ≡ true) ↔ EndlessPort net p
+unfolding endless portLength
+endless-port net refs p = (
+  λ e. record {
+    figureAt = portFigure net (jitterOf net);
+    jitterAt = jitterOf net;
+    from-lower = jitters-exist net refs p;
+    no-length = endless-flows (portFlows net (jitterOf net) p) .0 e;
+  },
+  λ q. endless-flows (portFlows net (jitterOf net) p) .1
+      (rw (one-list-of-flows net refs p (q .figureAt) (q .jitterAt) (q .from-lower)) at (q .no-length)),
+)
+
+-- ---- the first row that a test is true of is the first of which that is so which the test decides
+module _ (test : ℕ → Bool) (Is : ℕ → Type 0) (same : (i : ℕ) → (test i ≡ true) ↔ Is i) (n : ℕ) where
+  is-not : (i : ℕ) → test i ≡ false → Is i → ⊥
+  is-not i e is = true≢false (sym (same i .1 is) ∙ e)
+
+  not-so : (i : ℕ) → (Is i → ⊥) → test i ≡ false
+  not-so i never = go (test i) refl
+    where
+      go : (b : Bool) → test i ≡ b → b ≡ false
+      go true e = absurd (never (same i .0 e))
+      go false e = refl
+
+  first-of : (i : ℕ) → (leastFrom test 0 n ≡ some i) ↔ FirstOf Is n i
+  first-of i = (
+    λ e. (let was = least-was test 0 n i e in
+        record { row = omega (arith, was .high); here = same i .0 (was .passes); not-before = λ j h. is-not j (was .fails j (omega arith) h) }),
+    λ f. least-is test 0 n i (omega arith) (omega (arith, f .row)) (same i .1 (f .here)) (λ j a b. not-so j (f .not-before j b)),
+  )
+
+  none-of : (leastFrom test 0 n ≡ none) ↔ NoneOf Is n
+  none-of = (λ e i h. is-not i (none-was test 0 n i e (omega arith) (omega arith)), λ f. least-none test 0 n (λ i a b. not-so i (f i (omega arith))))
+
+module _ (net : Network) where
+  first-vl : (v : ℕ) → (endlessVl net ≡ some v) ↔ FirstVl net v
+  unfolding endlessVl
+  first-vl = first-of (λ v. isSome (endlessSubLink net v)) (EndlessQueue net) (endless-queue net) (length (net .vls))
+
+  no-vl : (endlessVl net ≡ none) ↔ NoVl net
+  unfolding endlessVl
+  no-vl = none-of (λ v. isSome (endlessSubLink net v)) (EndlessQueue net) (endless-queue net) (length (net .vls))
+
+  module _ (refs : References net) where
+    first-port : (p : ℕ) → (endlessPort net ≡ some p) ↔ FirstPort net p
+    unfolding endlessPort
+    first-port = first-of (endless net) (EndlessPort net) (endless-port net refs) (length (net .ports))
+
+    no-port : (endlessPort net ≡ none) ↔ NoPort net
+    unfolding endlessPort
+    no-port = none-of (endless net) (EndlessPort net) (endless-port net refs) (length (net .ports))
+
+-- ---- 9 and 10 by the rows that they are given at
+abbrev last : Option ℕ → Option ℕ → Answer
+last vl port = firstGiven (refusedAt 9 2 vl ∷ refusedAt 10 4 port ∷ [])
+
+numbers : {a b : Answer} → a ≡ b → a .number ≡ b .number
+numbers e = ap (λ (a : Answer). a .number) e
+
+last-9 : (vl port : Option ℕ) (v : ℕ) → (last vl port ≡ answer 9 2 v 0) ↔ (vl ≡ some v)
+unfolding firstGiven refusedAt
+last-9 vl port v = (was vl port, λ e. ap (λ (o : Option ℕ). last o port) e)
+  where
+    was : (vl port : Option ℕ) → last vl port ≡ answer 9 2 v 0 → vl ≡ some v
+    was (some i) port e = ap (λ (a : Answer). some (a .row)) e
+    was none (some i) e = absurd (omega (arith, numbers e))
+    was none none e = absurd (omega (arith, numbers e))
+
+last-10 : (vl port : Option ℕ) (p : ℕ) → (last vl port ≡ answer 10 4 p 0) ↔ ((vl ≡ none) × (port ≡ some p))
+unfolding firstGiven refusedAt
+last-10 vl port p = (was vl port, λ e. ap₂ last (e .0) (e .1))
+  where
+    was : (vl port : Option ℕ) → last vl port ≡ answer 10 4 p 0 → (vl ≡ none) × (port ≡ some p)
+    was (some i) port e = absurd (omega (arith, numbers e))
+    was none (some i) e = (refl, ap (λ (a : Answer). some (a .row)) e)
+    was none none e = absurd (omega (arith, numbers e))
+
+last-accepted : (vl port : Option ℕ) → (last vl port ≡ accepted) ↔ ((vl ≡ none) × (port ≡ none))
+unfolding firstGiven refusedAt
+last-accepted vl port = (was vl port, λ e. ap₂ last (e .0) (e .1))
+  where
+    was : (vl port : Option ℕ) → last vl port ≡ accepted → (vl ≡ none) × (port ≡ none)
+    was (some i) port e = absurd (omega (arith, numbers e))
+    was none (some i) e = absurd (omega (arith, numbers e))
+    was none none e = (refl, refl)
+
+-- behind 1 to 8 they are the answer
+module _ (bytes : List ℕ) (room : ℕ) (passed : Passed bytes room) where
+  behind-8 : analysisAnswer bytes room ≡ last (endlessVl (networkIn bytes)) (endlessPort (networkIn bytes))
+  unfolding judged firstGiven answer9 answer10
+  behind-8 = analysis-judged bytes room (passed .read) ∙ rw (passed .none-7, passed .none-8)
+
+pub exact-9 : Exact-9
+exact-9 bytes room v passed =
+    let net = networkIn bytes in
+    rw (behind-8 bytes room passed) (Iff·trans (last-9 (endlessVl net) (endlessPort net) v) (first-vl net v))
+
+pub exact-10 : Exact-10
+exact-10 bytes room p passed =
+    let net = networkIn bytes in
+    let refs = read-references bytes (passed .read) in
+    rw (behind-8 bytes room passed) (Iff·trans (last-10 (endlessVl net) (endlessPort net) p) (Iff·and (no-vl net) (first-port net refs p)))
+
+pub exact-accepted : Exact-accepted
+exact-accepted bytes room passed =
+    let net = networkIn bytes in
+    let refs = read-references bytes (passed .read) in
+    rw (behind-8 bytes room passed) (Iff·trans (last-accepted (endlessVl net) (endlessPort net)) (Iff·and (no-vl net) (no-port net refs)))
+
+pub exact-three : Exact-three
+unfolding firstGiven refusedAt
+exact-three bytes room passed = go (endlessVl (networkIn bytes)) (endlessPort (networkIn bytes)) (behind-8 bytes room passed)
+  where
+    go : (vl port : Option ℕ) → analysisAnswer bytes room ≡ last vl port → OneOfThree bytes room
+    go (some v) port e = is-9 v e
+    go none (some p) e = is-10 p e
+    go none none e = is-accepted e

@@ -1,0 +1,67 @@
+-- `analysis::links::late_system` meets its contract: after e turns the first e end systems send in time.
+-- Assumes nothing.
+use Prim.Native.Nat.{ℕ, _-_, _≤_, _<_}
+use mathlib.Core.Bool.{false}
+use mathlib.Core.Path.{_≡_}
+use native.Mathlib.Omega.{arith}
+use borrow.Author.Count.{below-more}
+use Rattle.rows.specs.Refusals.{sendsLate}
+use Rattle.analysis.specs.Sheet.{networkOn}
+use Rattle.analysis.proofs.LinkLaws.{late-is}
+use borrow.Author.Needs.{needs}
+use Rattle.analysis.proofs.links.late_system.Statement.{statement}
+use Rattle.analysis.proofs.links.late_system.Tie as tie
+
+abbrev Inv-loop : tie.InvT-loop
+Inv-loop net n e₀ e = (e ≤ n) × ((k : ℕ) → k < e → sendsLate (networkOn net) k ≡ false)
+
+abbrev μ-loop : tie.MeasureT-loop
+μ-loop net n e₀ e = n - e
+
+systems-in-requires : tie.Need-systems-in-requires Inv-loop μ-loop
+systems-in-requires c κs = search needs
+
+loop-holds : tie.Need-loop-holds Inv-loop μ-loop
+loop-holds c = (omega arith, (λ k l. absurd (omega arith)))
+
+send-sum-requires : tie.Need-send-sum-requires Inv-loop μ-loop
+send-sum-requires c κs = search needs
+
+sends-in-time-requires : tie.Need-sends-in-time-requires Inv-loop μ-loop
+sends-in-time-requires c κs = search needs
+
+returns : tie.Need-returns Inv-loop μ-loop
+returns c =
+    let l = c .before .before .before .before .loop in
+    record { inside = omega arith; before = l .inv .1; there = λ h. late-is _ (l .e) _ _ _ (c .before .before .send-sum .ensures) (c .before .sends-in-time .ensures) (c .if1 .taken) }
+
+add-e : tie.Need-add-e Inv-loop μ-loop
+add-e c = search needs
+
+loop-less : tie.Need-loop-less Inv-loop μ-loop
+loop-less c = search needs
+
+loop-again : tie.Need-loop-again Inv-loop μ-loop
+loop-again c =
+    let l = c .before .before .before .before .loop in
+    (omega arith, below-more _ (l .e) (l .inv .1) (late-is _ (l .e) _ _ _ (c .before .before .send-sum .ensures) (c .before .sends-in-time .ensures) (c .if1 .left)))
+
+returns-2 : tie.Need-returns-2 Inv-loop μ-loop
+returns-2 c =
+    record { inside = omega arith; before = λ k h. c .before .loop .inv .1 k (omega arith); there = λ h. absurd (omega arith) }
+
+pub late-system-spec : {M : Type 1} → statement M
+late-system-spec =
+    tie.close
+    (tie.spec
+    Inv-loop
+    μ-loop
+    systems-in-requires
+    loop-holds
+    send-sum-requires
+    sends-in-time-requires
+    returns
+    add-e
+    loop-less
+    loop-again
+    returns-2)

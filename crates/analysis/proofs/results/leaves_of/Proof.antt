@@ -1,0 +1,81 @@
+-- `analysis::results::leaves_of` meets its contract: after h turns the destinations among the first h hops are counted.
+-- Assumes nothing.
+use mathlib.Core.List.{[], _∷_}
+use mathlib.Core.Path.{_≡_, sym, ap, _∙_}
+use mathlib.Core.Logic.{⊎-elim}
+use Prim.Native.Nat.{_+_, _-_, _≤_}
+use native.Mathlib.Omega.{arith}
+use lib.ListN.{length, length-append}
+use Rattle.base.specs.Tabulate.{passing}
+use Rattle.analysis.specs.Sheet.{networkOn}
+use Rattle.analysis.proofs.RowLaws.{leavesTo, leaves-of-all, leaves-to-hit, leaves-to-other, leaves-to-inner}
+use borrow.Author.Needs.{needs}
+use Rattle.analysis.proofs.results.leaves_of.Statement.{statement}
+use Rattle.analysis.proofs.results.leaves_of.Tie as tie
+
+abbrev Inv-loop : tie.InvT-loop
+Inv-loop net leaves v n count₀ h₀ count h = (h ≤ n) × (count ≤ h) × (count ≡ length (leavesTo (networkOn net) v h))
+
+abbrev μ-loop : tie.MeasureT-loop
+μ-loop net leaves v n count₀ h₀ count h = n - h
+
+hops-in-requires : tie.Need-hops-in-requires Inv-loop μ-loop
+hops-in-requires c κs = search needs
+
+loop-holds : tie.Need-loop-holds Inv-loop μ-loop
+unfolding passing
+loop-holds c = omega arith
+
+hop-at-requires : tie.Need-hop-at-requires Inv-loop μ-loop
+hop-at-requires c κs = search needs
+
+element-copy-out-if2 : tie.Need-element-copy-out-if2 Inv-loop μ-loop
+element-copy-out-if2 c = search needs
+
+add-count : tie.Need-add-count Inv-loop μ-loop
+add-count c = search needs
+
+add-h : tie.Need-add-h Inv-loop μ-loop
+add-h c = search needs
+
+loop-less : tie.Need-loop-less Inv-loop μ-loop
+loop-less c = search needs
+
+loop-again : tie.Need-loop-again Inv-loop μ-loop
+loop-again c =
+    let start = c .before .before .before .before .before .before in
+    let net = networkOn (start .args .net .now) in
+    let v = start .args .v in
+    let l = c .before .before .before .before .loop in
+    let hop = c .before .before .hop-at .ensures in
+    let known = start .pre .1 .leaf-is (l .h) (omega arith) in
+    let counted : (c .if1 .count ≤ l .h + 1) × (c .if1 .count ≡ length (leavesTo net v (l .h + 1))) = ⊎-elim
+    (λ w. omega (arith, ap length (leaves-to-hit net v (l .h) (sym (hop .vl) ∙ w .0 .taken) (sym known ∙ w .2 .taken)), length-append (leavesTo net v (l .h)) (l .h ∷ [])))
+    (⊎-elim
+    (λ w. omega (arith, ap length (leaves-to-inner net v (l .h) (sym known ∙ w .2 .left))))
+    (λ w. omega (arith, ap length (leaves-to-other net v (l .h) (λ e. w .0 .left (hop .vl ∙ e))))))
+    (c .if1 .came) in
+    (omega arith, counted .0, counted .1)
+
+returns : tie.Need-returns Inv-loop μ-loop
+returns c =
+    let net = networkOn (c .before .before .before .args .net .now) in
+    let v = c .before .before .before .args .v in
+    let l = c .before .loop in
+    (l .inv .2 ∙ ap length (leaves-of-all net v (l .h) (omega arith)), omega arith)
+
+pub leaves-of-spec : {M : Type 1} → statement M
+leaves-of-spec =
+    tie.close
+    (tie.spec
+    Inv-loop
+    μ-loop
+    hops-in-requires
+    loop-holds
+    hop-at-requires
+    element-copy-out-if2
+    add-count
+    add-h
+    loop-less
+    loop-again
+    returns)

@@ -1,0 +1,75 @@
+-- `analysis::results::put_rows` meets its contract: after s turns the rows of the first s streams stand in the lent list.
+-- Assumes nothing.
+use mathlib.Core.Path.{_≡_, refl, _∙_}
+use Prim.Native.Nat.{_-_, _≤_}
+use native.Mathlib.Omega.{arith}
+use lib.ListN.{length}
+use Rattle.analysis.specs.Sheet.{networkOn}
+use Rattle.analysis.specs.Placing.{Put}
+use Rattle.analysis.proofs.JoinLaws.{put-no-rows, put-all-rows}
+use borrow.Author.Needs.{needs}
+use Rattle.analysis.proofs.results.put_rows.Statement.{statement}
+use Rattle.analysis.proofs.results.put_rows.Tie as tie
+
+abbrev Inv-loop : tie.InvT-loop
+Inv-loop net waits queues figures leaves result₀ n at₀ s₀ result at s =
+    (s ≤ n) × (length result ≡ length result₀) × Put (networkOn net) s at (length result₀) result
+
+abbrev μ-loop : tie.MeasureT-loop
+μ-loop net waits queues figures leaves result₀ n at₀ s₀ result at s = n - s
+
+streams-in-requires : tie.Need-streams-in-requires Inv-loop μ-loop
+streams-in-requires c κs = search needs
+
+loop-holds : tie.Need-loop-holds Inv-loop μ-loop
+loop-holds c =
+    let start = c .before .before in
+    (omega arith, refl, put-no-rows (networkOn (start .args .net .now)) (start .args .result .now) (start .pre .2 .zero-before))
+
+put-stream-requires : tie.Need-put-stream-requires Inv-loop μ-loop
+put-stream-requires c κs =
+    let start = c .before .before .before .before .before in
+    let l = c .before .before .loop in
+    record {
+      known = start .pre .0;
+      leaves-are = start .pre .1;
+      stream-there = omega arith;
+      before = rw (l .inv .1) (l .inv .2);
+      fits = omega (arith, start .pre .2 .fits, l .inv .1);
+    }
+
+add-s : tie.Need-add-s Inv-loop μ-loop
+add-s c = search needs
+
+loop-less : tie.Need-loop-less Inv-loop μ-loop
+loop-less c = search needs
+
+loop-again : tie.Need-loop-again Inv-loop μ-loop
+loop-again c =
+    let l = c .before .before .before .before .before .loop in
+    let kept = c .before .before .put-stream .kept .1 .1 .1 .1 .1 .1 .1 .0 in
+    (omega arith, kept ∙ l .inv .1, rw (← (l .inv .1)) (c .before .before .put-stream .ensures))
+
+same-length : tie.Need-same-length Inv-loop μ-loop
+same-length c = search needs
+
+returns : tie.Need-returns Inv-loop μ-loop
+returns c =
+    let a = c .before .before .before .before .args in
+    let l = c .before .loop in
+    put-all-rows (networkOn (a .net .now)) (l .s) (l .at) (length (a .result .now)) (l .result) (omega arith) (l .inv .2)
+
+pub put-rows-spec : {M : Type 1} → statement M
+put-rows-spec =
+    tie.close
+    (tie.spec
+    Inv-loop
+    μ-loop
+    streams-in-requires
+    loop-holds
+    put-stream-requires
+    add-s
+    loop-less
+    loop-again
+    same-length
+    returns)

@@ -1,0 +1,115 @@
+-- `analysis::results::route_most` meets its contract: the sum and what is left of the route, `left` hops at most, are together what the whole route adds.
+-- Assumes nothing.
+use mathlib.Core.Path.{_≡_, ap, _∙_}
+use Prim.Native.Nat.{ℕ, _+_, _-_, _*_, _≤_, _<_}
+use native.Mathlib.Omega.{arith}
+use lib.ListN.{length, getD}
+use Rattle.rows.specs.Ports.{jitterOf}
+use Rattle.rows.specs.Rows.{route}
+use Rattle.analysis.specs.Sheet.{networkOn}
+use Rattle.analysis.specs.Placing.{routeMost}
+use Rattle.analysis.proofs.BoundLaws.{port-figure-bound}
+use Rattle.analysis.proofs.RowLaws.{no-parent, a-parent, along, along-root, along-child, along-none, mostAt, route-most-is, most-read}
+use borrow.Author.Needs.{needs}
+use Rattle.analysis.proofs.results.route_most.Statement.{statement}
+use Rattle.analysis.proofs.results.route_most.Tie as tie
+
+abbrev Inv-loop : tie.InvT-loop
+Inv-loop net figures h sum₀ left₀ g₀ sum left g =
+    (left ≤ 8) × (g < length (networkOn net .hops)) × (sum ≤ (8 - left) * 125001250)
+    × (sum + along (networkOn net) (mostAt (networkOn net)) left g ≡ routeMost (networkOn net) (route (networkOn net) h))
+
+abbrev μ-loop : tie.MeasureT-loop
+μ-loop net figures h sum₀ left₀ g₀ sum left g = left
+
+-- what hop g adds
+added : (c : tie.After-struct-known Inv-loop μ-loop) →
+    let d = c .before .before .port-at .result .«delay_greatest» in
+    let figures = c .before .before .before .before .before .before .args .figures .now in
+    let net = networkOn (c .before .before .before .before .before .before .args .net .now) in
+    (d + getD figures (c .before .before .before .hop-at .result .port) 0 ≡ mostAt net (c .before .before .before .before .before .loop .g))
+    × (d + getD figures (c .before .before .before .hop-at .result .port) 0 ≤ 125001250)
+added c =
+    let start = c .before .before .before .before .before .before in
+    let net = networkOn (start .args .net .now) in
+    let hop = c .before .before .before .hop-at in
+    let port = c .before .before .port-at in
+    let good = start .pre .0 in
+    let known = start .pre .2 in
+    let p = hop .result .port in (
+      most-read net (start .args .figures .now) (c .before .before .before .before .before .loop .g) p (port .result .«delay_greatest») known (hop .ensures .port-there) (hop .ensures .port) (port .ensures .delay-greatest),
+      omega (arith, port .ensures .delay-bound, known .figure-is p (hop .ensures .port-there), port-figure-bound net (good .ranges) (good .references) (jitterOf net) p),
+    )
+
+loop-holds : tie.Need-loop-holds Inv-loop μ-loop
+loop-holds c =
+    let net = networkOn (c .args .net .now) in
+    (omega arith, c .pre .1, omega arith, omega (arith, route-most-is net (c .args .h)))
+
+hop-at-requires : tie.Need-hop-at-requires Inv-loop μ-loop
+hop-at-requires c κs = search needs
+
+port-at-requires : tie.Need-port-at-requires Inv-loop μ-loop
+port-at-requires c κs = search needs
+
+mul-sum : tie.Need-mul-sum Inv-loop μ-loop
+mul-sum c = search needs
+
+element-copy-out-sum : tie.Need-element-copy-out-sum Inv-loop μ-loop
+element-copy-out-sum c = search needs
+
+add-sum : tie.Need-add-sum Inv-loop μ-loop
+add-sum c = omega (arith, added c)
+
+add-sum-2 : tie.Need-add-sum-2 Inv-loop μ-loop
+add-sum-2 c = omega (arith, added c)
+
+returns : tie.Need-returns Inv-loop μ-loop
+returns c =
+    let net = networkOn (c .before .before .before .before .before .before .before .args .net .now) in
+    let l = c .before .before .before .before .before .before .loop in
+    let hop = c .before .before .before .before .hop-at in
+    let now = added (c .before) in
+    let root = no-parent _ (hop .result .root) (hop .result .parent) (hop .ensures .parent) (c .if1 .taken) in
+    (ap (λ (n : ℕ). l .sum + n) (now .0) ∙ along-root net (mostAt net) (l .left) (l .g) (l .sum) _ (c .before .before .before .before .before .loop-test .taken) root (l .inv .3), omega arith)
+
+sub-left : tie.Need-sub-left Inv-loop μ-loop
+sub-left c = search needs
+
+loop-less : tie.Need-loop-less Inv-loop μ-loop
+loop-less c = search needs
+
+loop-again : tie.Need-loop-again Inv-loop μ-loop
+loop-again c =
+    let net = networkOn (c .before .before .before .before .before .before .before .args .net .now) in
+    let l = c .before .before .before .before .before .before .loop in
+    let hop = c .before .before .before .before .hop-at in
+    let now = added (c .before) in
+    let parent = a-parent _ (hop .result .root) (hop .result .parent) (hop .ensures .parent) (c .if1 .left) in
+    let rest = along-child net (mostAt net) (l .left) (l .g) (hop .result .parent) (l .sum) _ (c .before .before .before .before .before .loop-test .taken) parent (l .inv .3) in
+    (omega arith, hop .ensures .parent-there, omega arith, rw (now .0) rest)
+
+returns-2 : tie.Need-returns-2 Inv-loop μ-loop
+returns-2 c =
+    let net = networkOn (c .before .before .args .net .now) in
+    let l = c .before .loop in
+    (along-none net (mostAt net) (l .left) (l .g) (l .sum) _ (omega arith) (l .inv .3), omega arith)
+
+pub route-most-spec : {M : Type 1} → statement M
+route-most-spec =
+    tie.close
+    (tie.spec
+    Inv-loop
+    μ-loop
+    loop-holds
+    hop-at-requires
+    port-at-requires
+    mul-sum
+    element-copy-out-sum
+    add-sum
+    add-sum-2
+    returns
+    sub-left
+    loop-less
+    loop-again
+    returns-2)

@@ -1,0 +1,51 @@
+-- The rows in the lent result: what is known before they are computed, and how far they are written. Nothing here has to be believed.
+-- Assumes nothing.
+use Prim.Native.Nat.{ℕ, _+_, _*_, _≤_, _<_}
+use mathlib.Core.Bool.{Bool}
+use mathlib.Core.List.{List, _++_, map}
+use mathlib.Core.Path.{_≡_}
+use lib.ListN.{length, take, drop, replicate}
+use Rattle.base.specs.Tabulate.{total}
+use Rattle.network.specs.Network.{Network, hopAt, portAt}
+use Rattle.rows.specs.Links.{hopLine}
+use Rattle.rows.specs.Ports.{figureOf}
+use Rattle.rows.specs.Rows.{rowsTo, rowsOf}
+use Rattle.table.specs.Sections.{lent}
+use Rattle.analysis.specs.Analysis.{joined}
+use Rattle.analysis.specs.Sheet.{networkOn, Good}
+use Rattle.analysis.specs.Computing.{Waits, Queues, Figures, Leaves}
+
+-- the numbers of a row at a place of the lent result
+unfoldable pub putAt : List ℕ → ℕ → List ℕ → List ℕ
+putAt l at row = take at l ++ row ++ drop (at + length row) l
+
+-- the ticks that a route adds at most, and at least
+unfoldable pub routeMost : Network → List ℕ → ℕ
+routeMost net hs = total (map (λ g. portAt net (hopAt net g .port) .delayGreatest + figureOf net g) hs)
+
+unfoldable pub routeLeast : Network → List ℕ → ℕ
+routeLeast net hs = total (map (λ g. hopLine net g + portAt net (hopAt net g .port) .delayLeast) hs)
+
+-- all that is computed before the rows
+pub record Known (sheet waits queues figures : List ℕ) : Type 0 where
+  pub good : Good sheet
+  pub waits-are : Waits (networkOn sheet) waits
+  pub queues-are : Queues (networkOn sheet) queues (length (networkOn sheet .vls))
+  pub figures-are : Figures (networkOn sheet) figures (length (networkOn sheet .ports))
+
+-- a lent result that is zero and has room for all rows
+pub record Room (net : Network) (result : List ℕ) : Type 0 where
+  pub zero-before : result ≡ replicate (length result) 0
+  pub fits : 6 * length (rowsOf net) ≤ length result
+
+-- the rows of the streams below s stand in a lent result of n numbers, and end at place `at`
+pub record Put (net : Network) (s at n : ℕ) (result : List ℕ) : Type 0 where
+  pub place : at ≡ 6 * length (rowsTo net s)
+  pub holds : result ≡ lent n (joined (rowsTo net s))
+
+pub record Putting (sheet waits queues figures : List ℕ) (leaves : List Bool) (s at : ℕ) (result : List ℕ) : Type 0 where
+  pub known : Known sheet waits queues figures
+  pub leaves-are : Leaves (networkOn sheet) leaves
+  pub stream-there : s < length (networkOn sheet .streams)
+  pub before : Put (networkOn sheet) s at (length result) result
+  pub fits : 6 * length (rowsOf (networkOn sheet)) ≤ length result

@@ -1,0 +1,246 @@
+// The result rows: for each stream in order, each hop of its VL that is nobody's parent, in order.
+// The figures are computed before; a row only adds them up along its route.
+use crate::links;
+use crate::ports;
+use crate::queues;
+use crate::sheet;
+use crate::sheet::SHEET;
+ghost use mathlib.Core.Path.{_≡_};
+ghost use Prim.Native.Nat.{_<_, _≤_, _+_, _*_};
+ghost use lib.ListN.{length, replicate};
+ghost use Rattle.network.specs.Network.{streamAt};
+ghost use Rattle.table.specs.Sections.{lent};
+ghost use Rattle.rows.specs.Rows.{leavesOf, route, queueOf, worst, best, rowOf, rowsTo, rowsOf};
+ghost use Rattle.analysis.specs.Analysis.{joined};
+ghost use Rattle.analysis.specs.Sheet.{networkOn, Good};
+ghost use Rattle.analysis.specs.Computing.{Queues, Figures, Leaves};
+ghost use Rattle.analysis.specs.Placing.{Known, Putting, Put, Room, putAt, routeMost, routeLeast};
+
+// ---- the destinations
+
+// Whether each hop is nobody's parent.
+pub fn leaves(net: &[u64; SHEET]) -> [bool; 1_024]
+    requires { ⌜ Good (now net) ⌝ }
+    ensures { λ r. ⌜ Leaves (networkOn (now (net .entry))) r ⌝ }
+{
+    let mut leaves = [true; 1_024];
+    let n = sheet::hops_in(net);
+    let mut h = 0;
+    while h < n {
+        let hop = sheet::hop_at(net, h);
+        let root = hop.root;
+        if !root {
+            let g = hop.parent;
+            leaves[g] = false;
+        }
+        h += 1;
+    }
+    leaves
+}
+
+// The destinations of VL v.
+fn leaves_of(net: &[u64; SHEET], leaves: &[bool; 1_024], v: usize) -> usize
+    requires { ⌜ Good (now net) × Leaves (networkOn (now net)) (now leaves) ⌝ }
+    ensures { λ r. ⌜ (r ≡ length (leavesOf (networkOn (now (net .entry))) v)) × (r ≤ 1024) ⌝ }
+{
+    let n = sheet::hops_in(net);
+    let mut count = 0;
+    let mut h = 0;
+    while h < n {
+        let hop = sheet::hop_at(net, h);
+        if hop.vl == v {
+            if leaves[h] {
+                count += 1;
+            }
+        }
+        h += 1;
+    }
+    count
+}
+
+// How many rows there are.
+pub fn row_count(net: &[u64; SHEET], leaves: &[bool; 1_024]) -> usize
+    requires { ⌜ Good (now net) × Leaves (networkOn (now net)) (now leaves) ⌝ }
+    ensures { λ r. ⌜ (r ≡ length (rowsOf (networkOn (now (net .entry))))) × (r ≤ 524288) ⌝ }
+{
+    let n = sheet::streams_in(net);
+    let mut count = 0;
+    let mut s = 0;
+    while s < n {
+        let stream = sheet::stream_at(net, s);
+        count += leaves_of(net, leaves, stream.vl);
+        s += 1;
+    }
+    count
+}
+
+// ---- a row
+
+// What the route of hop h adds at most: the greatest switch delay and the figure of each port.
+fn route_most(net: &[u64; SHEET], figures: &[u64; 128], h: usize) -> u64
+    requires { ⌜ Good (now net) × (h < length (networkOn (now net) .hops)) × Figures (networkOn (now net)) (now figures) (length (networkOn (now net) .ports)) ⌝ }
+    ensures { λ r. ⌜ (r ≡ routeMost (networkOn (now (net .entry))) (route (networkOn (now (net .entry))) h)) × (r ≤ 1000010000) ⌝ }
+{
+    let mut sum = 0u64;
+    let mut left = 8usize;
+    let mut g = h;
+    while 0 < left {
+        let hop = sheet::hop_at(net, g);
+        let p = hop.port;
+        let port = sheet::port_at(net, p);
+        sum += port.delay_greatest + figures[p];
+        let root = hop.root;
+        if root {
+            return sum;
+        }
+        g = hop.parent;
+        left -= 1;
+    }
+    sum
+}
+
+// What it adds at least: a least frame on each link and the least switch delay.
+fn route_least(net: &[u64; SHEET], h: usize) -> u64
+    requires { ⌜ Good (now net) × (h < length (networkOn (now net) .hops)) ⌝ }
+    ensures { λ r. ⌜ (r ≡ routeLeast (networkOn (now (net .entry))) (route (networkOn (now (net .entry))) h)) × (r ≤ 16720) ⌝ }
+{
+    let mut sum = 0u64;
+    let mut left = 8usize;
+    let mut g = h;
+    while 0 < left {
+        let hop = sheet::hop_at(net, g);
+        let port = sheet::port_at(net, hop.port);
+        sum += ports::hop_least(net, g) + port.delay_least;
+        let root = hop.root;
+        if root {
+            return sum;
+        }
+        g = hop.parent;
+        left -= 1;
+    }
+    sum
+}
+
+// The queue figure of stream s's sub-link.
+fn queue_of(net: &[u64; SHEET], queues: &[u64; 1_024], s: usize) -> u64
+    requires { ⌜ Good (now net) × (s < length (networkOn (now net) .streams)) × Queues (networkOn (now net)) (now queues) (length (networkOn (now net) .vls)) ⌝ }
+    ensures { λ r. ⌜ (r ≡ queueOf (networkOn (now (net .entry))) s) × (r ≤ 125000000) ⌝ }
+{
+    let stream = sheet::stream_at(net, s);
+    let at = stream.vl * 4 + stream.sub_link;
+    queues[at]
+}
+
+fn worst_of(
+    net: &[u64; SHEET],
+    waits: &[u64; 256],
+    queues: &[u64; 1_024],
+    figures: &[u64; 128],
+    s: usize,
+    h: usize,
+) -> u64
+    requires { ⌜ Known (now net) (now waits) (now queues) (now figures) × (s < length (networkOn (now net) .streams)) × (h < length (networkOn (now net) .hops)) ⌝ }
+    ensures { λ r. ⌜ (r ≡ worst (networkOn (now (net .entry))) s h) × (r ≤ 1200000000) ⌝ }
+{
+    let d = sheet::delays_of(net);
+    let stream = sheet::stream_at(net, s);
+    let v = stream.vl;
+    let sent = d.send_greatest + queue_of(net, queues, s) + waits[v] + links::send_most(net, v);
+    sent + route_most(net, figures, h) + d.receive_greatest
+}
+
+fn best_of(net: &[u64; SHEET], s: usize, h: usize) -> u64
+    requires { ⌜ Good (now net) × (s < length (networkOn (now net) .streams)) × (h < length (networkOn (now net) .hops)) ⌝ }
+    ensures { λ r. ⌜ r ≡ best (networkOn (now (net .entry))) s h ⌝ }
+{
+    let d = sheet::delays_of(net);
+    let stream = sheet::stream_at(net, s);
+    let vl = sheet::vl_at(net, stream.vl);
+    let gaps = (queues::packets(stream.least_size, vl.lmax) - 1) * vl.gap;
+    d.send_least + gaps + links::send_least(net, stream.vl) + route_least(net, h) + d.receive_least
+}
+
+// Stream, hop, queue, worst, best, jitter.
+fn row_of(
+    net: &[u64; SHEET],
+    waits: &[u64; 256],
+    queues: &[u64; 1_024],
+    figures: &[u64; 128],
+    s: usize,
+    h: usize,
+) -> [u64; 6]
+    requires { ⌜ Known (now net) (now waits) (now queues) (now figures) × (s < length (networkOn (now net) .streams)) × (h < length (networkOn (now net) .hops)) ⌝ }
+    ensures { λ r. ⌜ r ≡ rowOf (networkOn (now (net .entry))) s h ⌝ }
+{
+    let stream = sheet::stream_at(net, s);
+    let queue = queue_of(net, queues, s);
+    let worst = worst_of(net, waits, queues, figures, s, h);
+    let best = best_of(net, s, h);
+    let jitter = stream.jitter + links::less(worst, best);
+    [s as u64, h as u64, queue, worst, best, jitter]
+}
+
+// ---- the rows in the lent result
+
+fn put_row(result: &mut [u64], at: usize, row: [u64; 6])
+    requires { ⌜ at + 6 ≤ length (now result) ⌝ }
+    ensures { λ _. ⌜ now (result .exit) ≡ putAt (now (result .entry)) at row ⌝ }
+{
+    let mut k = 0;
+    while k < 6 {
+        result[at + k] = row[k];
+        k += 1;
+    }
+}
+
+// The rows of stream s, from place `at` on: the place behind them.
+fn put_stream(
+    net: &[u64; SHEET],
+    waits: &[u64; 256],
+    queues: &[u64; 1_024],
+    figures: &[u64; 128],
+    leaves: &[bool; 1_024],
+    s: usize,
+    at: usize,
+    result: &mut [u64],
+) -> usize
+    requires { ⌜ Putting (now net) (now waits) (now queues) (now figures) (now leaves) s at (now result) ⌝ }
+    ensures { λ r. ⌜ Put (networkOn (now (net .entry))) (s + 1) r (length (now (result .entry))) (now (result .exit)) ⌝ }
+{
+    let stream = sheet::stream_at(net, s);
+    let n = sheet::hops_in(net);
+    let mut next = at;
+    let mut h = 0;
+    while h < n {
+        let hop = sheet::hop_at(net, h);
+        if hop.vl == stream.vl {
+            if leaves[h] {
+                put_row(result, next, row_of(net, waits, queues, figures, s, h));
+                next += 6;
+            }
+        }
+        h += 1;
+    }
+    next
+}
+
+// All rows; the lent result is zero before, and long enough.
+pub fn put_rows(
+    net: &[u64; SHEET],
+    waits: &[u64; 256],
+    queues: &[u64; 1_024],
+    figures: &[u64; 128],
+    leaves: &[bool; 1_024],
+    result: &mut [u64],
+)
+    requires { ⌜ Known (now net) (now waits) (now queues) (now figures) × Leaves (networkOn (now net)) (now leaves) × Room (networkOn (now net)) (now result) ⌝ }
+    ensures { λ _. ⌜ now (result .exit) ≡ lent (length (now (result .entry))) (joined (rowsOf (networkOn (now (net .entry))))) ⌝ }
+{
+    let n = sheet::streams_in(net);
+    let mut at = 0;
+    let mut s = 0;
+    while s < n {
+        at = put_stream(net, waits, queues, figures, leaves, s, at, result);
+        s += 1;
+    }
+}

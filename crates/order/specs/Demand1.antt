@@ -1,0 +1,40 @@
+-- The order, demand 1: "The software takes every table offered, damaged ones as well, and ends. It refuses by number, section and row as document 01 lists, and on a refusal every result place lent to it holds zero. It never relies on the caller having looked first."
+-- No public routine has a `requires`, and each is proved to end and to leave what its promise says: `Analyses`, `Unpacks`, `Writes`. Here is what the promises say of refusals. Assumes nothing.
+use Prim.Native.Nat.{ℕ, _<_}
+use mathlib.Core.List.{List}
+use mathlib.Core.Path.{_≡_}
+use lib.ListN.{replicate}
+use Rattle.table.specs.declared.Unpacked.{Unpacked}
+use Rattle.table.specs.declared.Written.{Written}
+use Rattle.table.specs.Unpack.{Lengths, unpackAnswer, Unpacks}
+use Rattle.table.specs.Write.{Lists, writeAnswer, Writes}
+use Rattle.analysis.specs.declared.Analysed.{Analysed}
+use Rattle.analysis.specs.Analysis.{analysisAnswer, Analyses}
+
+-- the analysis of a table, with a lent result of `room` numbers: the first of 01's answers 1 to 10 that is given, and on a refusal no row and zeros
+pub record AnalysisRefuses (bytes : List ℕ) (room : ℕ) (r : Analysed) (result : List ℕ) : Type 0 where
+  pub answer : r .answer ≡ analysisAnswer bytes room
+  pub no-rows : 0 < r .answer .number → r .rows ≡ 0
+  pub all-zero : 0 < r .answer .number → result ≡ replicate room 0
+
+-- the unpacker, with six lent lists of n numbers: 1 to 4 and 11
+pub record UnpackerRefuses (bytes : List ℕ) (n : Lengths) (r : Unpacked) (delays systems vls streams ports hops : List ℕ) : Type 0 where
+  pub answer : r .answer ≡ unpackAnswer bytes n
+  pub delays-zero : 0 < r .answer .number → delays ≡ replicate (n .delays) 0
+  pub systems-zero : 0 < r .answer .number → systems ≡ replicate (n .systems) 0
+  pub vls-zero : 0 < r .answer .number → vls ≡ replicate (n .vls) 0
+  pub streams-zero : 0 < r .answer .number → streams ≡ replicate (n .streams) 0
+  pub ports-zero : 0 < r .answer .number → ports ≡ replicate (n .ports) 0
+  pub hops-zero : 0 < r .answer .number → hops ≡ replicate (n .hops) 0
+
+-- the writer, with `room` lent bytes: 2, 4 and 11
+pub record WriterRefuses (ls : Lists) (room : ℕ) (r : Written) (out : List ℕ) : Type 0 where
+  pub answer : r .answer ≡ writeAnswer ls room
+  pub all-zero : 0 < r .answer .number → out ≡ replicate room 0
+
+pub record Demand-1 : Type 0 where
+  pub analysis : (bytes : List ℕ) (room : ℕ) (r : Analysed) (result : List ℕ) → Analyses bytes room r result → AnalysisRefuses bytes room r result
+  pub unpacker :
+      (bytes : List ℕ) (n : Lengths) (r : Unpacked) (delays systems vls streams ports hops : List ℕ)
+      → Unpacks bytes n r delays systems vls streams ports hops → UnpackerRefuses bytes n r delays systems vls streams ports hops
+  pub writer : (ls : Lists) (room : ℕ) (r : Written) (out : List ℕ) → Writes ls room r out → WriterRefuses ls room r out
