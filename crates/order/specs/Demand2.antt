@@ -14,6 +14,7 @@ use Rattle.rows.specs.Ports.{Figures, figureOf, jitterOf}
 use Rattle.rows.specs.Rows.{rowsOf}
 use Rattle.analysis.specs.declared.Analysed.{Analysed}
 use Rattle.analysis.specs.Analysis.{joined, Analyses}
+use Rattle.analysis.specs.Exact.{Exact-9, Exact-10, Exact-accepted, Exact-three}
 
 -- "Each figure equals what 01 lays down": the lent result holds 01's rows of the network that the bytes describe, and then zeros
 pub record RowsAre (bytes : List ℕ) (room : ℕ) (r : Analysed) (result : List ℕ) : Type 0 where
@@ -29,6 +30,11 @@ pub record OneSolution (net : Network) : Type 0 where
 pub record Demand-2 : Type 0 where
   pub figures : (bytes : List ℕ) (room : ℕ) (r : Analysed) (result : List ℕ) → Analyses bytes room r result → r .answer ≡ accepted → RowsAre bytes room r result
   pub one-solution : (net : Network) → References net → OneSolution net
+  -- "Where refusals 1 to 8 do not apply, a load refusal is given exactly if no busy length within 01's limit exists": 9 at the first VL with such a sub-link, else 10 at the first such port, else the table is accepted, and nothing else is answered
+  pub load-refusal-9 : Exact-9
+  pub load-refusal-10 : Exact-10
+  pub no-load-refusal : Exact-accepted
+  pub nothing-else : Exact-three
   -- "Fields written to a table read back the same"
   pub unpack-after-write : Unpack-after-write
   -- "an accepted table, unpacked and written again, gives the same bytes"

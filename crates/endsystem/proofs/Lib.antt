@@ -1,0 +1,3 @@
+pub mod FlatLaws
+pub mod SpeedLaws
+pub mod Unique

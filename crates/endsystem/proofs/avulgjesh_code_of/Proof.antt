@@ -1,0 +1,18 @@
+-- `endsystem::avulgjesh_code_of` meets its contract: its struct says what the reply of `frame::code_of` says.
+-- Assumes nothing.
+use mathlib.Core.Path.{_∙_}
+use borrow.Author.Needs.{needs}
+use Rattle.endsystem.proofs.avulgjesh_code_of.Statement.{statement}
+use Rattle.endsystem.proofs.avulgjesh_code_of.Tie as tie
+
+code-of-requires : tie.Need-code-of-requires
+code-of-requires c κs = search needs
+
+told-requires : tie.Need-told-requires
+told-requires c κs = search needs
+
+returns : tie.Need-returns
+returns c = c .told .ensures ∙ c .before .code-of .ensures
+
+pub avulgjesh-code-of-spec : {M : Type 1} → statement M
+avulgjesh-code-of-spec = tie.close (tie.spec code-of-requires told-requires returns)

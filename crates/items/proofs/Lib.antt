@@ -1,0 +1,2 @@
+-- The law file of the proofs. Assumes nothing.
+pub mod CountLaws
