@@ -38,14 +38,14 @@ module _ (net : Network) (sound : Sound net) (busy : Busy net) where
       let stream : m .stream < length (net .streams) = subst (λ (z : ℕ). z < length (net .streams)) (a .stream) (per .sized t (a .release) (s .running) (a .there) .stream) in
       let e : latest net win (m .stream) h ≡ worst net (m .stream) h = worst-is net sound busy (m .stream) h stream (s .row) (s .same-vl) in
       subst (λ (z : ℕ). Complete net r m h (t + z)) e
-      (no-later-below net sound r n per win t m (s .running) (s .released) h (s .row) (s .same-vl) (s .is-leaf) (subst (λ (z : ℕ). t + z < n) (sym e) enough))
+      (no-later-below net sound r n per win t m (s .running) (s .released) h (s .row) (s .same-vl) (s .is-leaf) (omega (arith, e, enough)))
 
   earlier : No-earlier net
   earlier r n per t m h s u k c =
       let a = was-message t 0 (r .releases t) m (s .released) in
       let stream : m .stream < length (net .streams) = subst (λ (z : ℕ). z < length (net .streams)) (a .stream) (per .sized t (a .release) (s .running) (a .there) .stream) in
       let e : soonest net win (m .stream) h ≡ best net (m .stream) h = best-is net sound busy (m .stream) h stream (s .row) (s .same-vl) in
-      subst (λ (z : ℕ). t + z ≤ u) e (no-earlier-below net sound r n per win t m (s .running) (s .released) h (s .row) (s .same-vl) (s .is-leaf) u k c)
+      omega (arith, e, no-earlier-below net sound r n per win t m (s .running) (s .released) h (s .row) (s .same-vl) (s .is-leaf) u k c)
 
   longer : No-longer net
   longer r n per v t x k e =

@@ -1,5 +1,6 @@
 pub mod Cases
 pub mod Parts
+pub mod AFewTicks
 pub mod Sums
 pub mod Lindley
 pub mod FifoLaws
@@ -35,5 +36,3 @@ pub mod Worth
 pub mod Reached
 pub mod Demand3
 pub mod Whole
-pub mod Small
-pub mod Examples

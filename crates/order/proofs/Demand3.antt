@@ -3,6 +3,7 @@
 use Prim.Native.Nat.{ℕ, _<_}
 use mathlib.Core.List.{List, List·Memᴰ}
 use mathlib.Core.Path.{_≡_, sym, ap, _∙_}
+use native.Mathlib.Omega.{arith}
 use lib.ListN.{length}
 use Rattle.network.specs.Network.{Network}
 use Rattle.network.specs.References.{References}
@@ -38,7 +39,7 @@ module _ (net : Network) (refs : References net) (machine : Machine.Holds net) (
         rw w (machine .no-later run n per t m (hopIn result i) (sent run n t m l there i h e) (rw w at enough));
     no-earlier = λ run n per t m l there i h e u b done.
         let w = row-at net room result rows-are i h .best-is ∙ ap (λ (s : ℕ). best net s (hopIn result i)) e in
-        rw w (machine .no-earlier run n per t m (hopIn result i) (sent run n t m l there i h e) u b done);
+        omega (arith, w, machine .no-earlier run n per t m (hopIn result i) (sent run n t m l there i h e) u b done);
     no-longer = λ run n per v t x l over i h e.
         let w = row-at net room result rows-are i h .queue-is ∙ ap (queueOf net) e in
         rw w (machine .no-longer run n per v t x l over);

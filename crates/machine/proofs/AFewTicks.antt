@@ -1,0 +1,225 @@
+-- The machine by computation: a few ticks of each part, then three small networks. Each rule of it shows here in a number or a list of its own.
+-- Assumes nothing.
+use Prim.Native.Nat.{ℕ, zero, suc, _+_}
+use mathlib.Core.Bool.{false, cond, _&&_}
+use mathlib.Core.List.{List, [], _∷_, List·Memᴰ, List·Memᴰ·head}
+use mathlib.Core.Option.{Option, none, some}
+use mathlib.Core.Path.{_≡_, refl}
+use native.Mathlib.Omega.{arith}
+use lib.Dec.{eqb}
+use Rattle.base.specs.Least.{leastFrom}
+use Rattle.base.specs.Round.{up}
+use Rattle.base.specs.Tabulate.{passing}
+use Rattle.base.specs.Tests.{isSome}
+use Rattle.frame.specs.Frame.{protocolOverhead, lineOf, lineBytes}
+use Rattle.frame.specs.Packets.{fullPacket, packets, cut, packetLines}
+use Rattle.network.specs.Network.{Network}
+use Rattle.network.specs.References.{hopsOn}
+use Rattle.rows.specs.Links.{vlsOf}
+use Rattle.rows.specs.Rows.{isParent, leaf}
+use Rattle.machine.specs.Sum.{span}
+use Rattle.machine.specs.Pool.{landed}
+use Rattle.machine.specs.Queue.{Queue}
+use Rattle.machine.specs.Fifo as Fifo
+use Rattle.machine.specs.Messages.{Release, Message, Packet, Frame, messages}
+use Rattle.machine.specs.Machine.{State, Run, released, leaves, setsOut, reaches, complete, hands, allSending, state}
+use Rattle.machine.specs.Permitted.{PermittedBelow}
+use Rattle.machine.proofs.Parts.{queue, handed, fifo, fifo-out, pool, lands}
+
+-- ---- a span of 2 ticks from tick 3, both end ticks counted: 3 + 4 + 5
+pub span-of-2 : span (λ t. t) 3 2 ≡ 12
+unfolding span
+span-of-2 = refl
+
+-- ---- two releases of tick 3: their messages differ in their places
+abbrev pub release : Release
+release = record { stream = 0; size = 10 }
+
+abbrev pub message-of : ℕ → ℕ → Message
+message-of t i = record { released = t; place = i; stream = 0; size = 10 }
+
+pub places : messages 3 0 (release ∷ release ∷ []) ≡ message-of 3 0 ∷ message-of 3 1 ∷ []
+places = refl
+
+-- ---- two sub-links, a gap of 5: in tick 0 packets 1 and 2 come to sub-link 0, packet 7 to sub-link 1
+abbrev pub from-0 : Queue ℕ
+from-0 = record { lanes = record { name = 0; line = [] } ∷ record { name = 1; line = [] } ∷ []; next = 0 }
+
+abbrev pub from-1 : Queue ℕ
+from-1 = record { lanes = record { name = 1; line = [] } ∷ record { name = 0; line = [] } ∷ []; next = 0 }
+
+abbrev pub lane-news : ℕ → List ℕ
+lane-news zero = 1 ∷ 2 ∷ []
+lane-news (suc i) = 7 ∷ []
+
+abbrev pub news : ℕ → ℕ → List ℕ
+news zero i = lane-news i
+news (suc t) i = []
+
+abbrev pub at-0-4-5-9-10-15 : Queue ℕ → List (Option ℕ)
+at-0-4-5-9-10-15 s = handed 5 s news 0 ∷ handed 5 s news 4 ∷ handed 5 s news 5 ∷ handed 5 s news 9 ∷ handed 5 s news 10 ∷ handed 5 s news 15 ∷ []
+
+pub turns-0 : at-0-4-5-9-10-15 from-0 ≡ some 1 ∷ none ∷ some 7 ∷ none ∷ some 2 ∷ none ∷ []
+unfolding handed queue
+turns-0 = refl
+
+pub turns-1 : at-0-4-5-9-10-15 from-1 ≡ some 7 ∷ none ∷ some 1 ∷ none ∷ some 2 ∷ none ∷ []
+unfolding handed queue
+turns-1 = refl
+
+-- ---- a port, each job named by its cost: 3 and 2 come in tick 0, 4 in tick 1; they are sent whole in ticks 3, 5 and 9
+abbrev pub jobs : ℕ → List ℕ
+jobs zero = 3 ∷ 2 ∷ []
+jobs (suc zero) = 4 ∷ []
+jobs (suc (suc t)) = []
+
+abbrev pub sent : ℕ → List ℕ
+sent t = fifo-out (λ j. j) jobs t
+
+pub in-line : sent 2 ∷ sent 3 ∷ sent 4 ∷ sent 5 ∷ sent 8 ∷ sent 9 ∷ [] ≡ [] ∷ (3 ∷ []) ∷ [] ∷ (2 ∷ []) ∷ [] ∷ (4 ∷ []) ∷ []
+unfolding fifo-out fifo
+in-line = refl
+
+-- ---- a way, each thing named by its delay: 0 and 2 set out in tick 0, and come in ticks 0 and 2
+abbrev pub sets-out : ℕ → List ℕ
+sets-out zero = 0 ∷ 2 ∷ []
+sets-out (suc t) = []
+
+abbrev pub comes : ℕ → List ℕ
+comes t = lands (λ u x. x) sets-out t
+
+pub on-the-way : comes 0 ∷ comes 1 ∷ comes 2 ∷ comes 3 ∷ [] ≡ (0 ∷ []) ∷ [] ∷ (2 ∷ []) ∷ [] ∷ []
+unfolding lands pool
+on-the-way = refl
+
+-- ---- one message of 10 bytes over one port, 84 ticks on each link: it is complete in tick 168, and not before
+abbrev pub small : Network
+small = record {
+  sendLeast = 0;
+  sendGreatest = 0;
+  receiveLeast = 0;
+  receiveGreatest = 0;
+  systems = record { perByte = 1 } ∷ [];
+  vls = record { system = 0; gap = 12500; subLinks = 1; lmax = 64 } ∷ [];
+  streams = record { vl = 0; subLink = 0; sampling = false; size = 10; leastSize = 10; period = 12500; jitter = 0 } ∷ [];
+  ports = record { perByte = 1; delayLeast = 0; delayGreatest = 0 } ∷ [];
+  hops = record { vl = 0; port = 0; parent = none } ∷ [];
+}
+
+-- its packet, handed over in tick t
+abbrev pub packet : Packet
+packet = record { message = message-of 0 0; index = 0; bytes = 84 }
+
+abbrev pub frame : ℕ → Frame
+frame t = record { packet = packet; vl = 0; born = t }
+
+abbrev pub one-release : ℕ → List Release
+one-release t = cond (eqb t 0) (release ∷ []) []
+
+abbrev pub at-once : Run
+at-once = record {
+  releases = one-release;
+  firstSub = λ v. 0;
+  firstVl = λ e. 0;
+  choice = λ t. record {
+    send = λ m. 0;
+    reach = cond (eqb t 0) (message-of 0 0 ∷ []) [];
+    flight = λ h g. 0;
+    enter = λ p. cond (eqb t 84) (record { frame = frame 0; hop = 0 } ∷ []) [];
+    receive = λ h g. 0;
+  };
+}
+
+-- a packet is handed over in the tick in which it comes to its queue
+pub in-its-tick : hands small 0 (at-once .choice 0) (state small at-once 0) 0 .got ≡ some packet
+unfolding state passing packetLines cut packets up fullPacket protocolOverhead lineBytes lineOf
+in-its-tick = refl
+
+pub there : complete small 168 (at-once .choice 168) (state small at-once 168) 0 ≡ frame 0 ∷ []
+unfolding state leaf isParent isSome leastFrom
+there = refl
+
+pub not-there : complete small 167 (at-once .choice 167) (state small at-once 167) 0 ≡ []
+unfolding state leaf isParent isSome leastFrom
+not-there = refl
+
+-- ---- one message of 10 bytes: send delay 2, end system to 86, switch 1, port 0 to 171, switch 2, port 1 to 257, receive 3; what lands is what the run says enters
+abbrev pub two : Network
+two = record {
+  sendLeast = 0;
+  sendGreatest = 9;
+  receiveLeast = 0;
+  receiveGreatest = 9;
+  systems = record { perByte = 1 } ∷ [];
+  vls = record { system = 0; gap = 12500; subLinks = 1; lmax = 64 } ∷ [];
+  streams = record { vl = 0; subLink = 0; sampling = false; size = 10; leastSize = 10; period = 12500; jitter = 0 } ∷ [];
+  ports = record { perByte = 1; delayLeast = 0; delayGreatest = 9 } ∷ record { perByte = 1; delayLeast = 0; delayGreatest = 9 } ∷ [];
+  hops = record { vl = 0; port = 0; parent = none } ∷ record { vl = 0; port = 1; parent = some 0 } ∷ [];
+}
+
+-- with a switch delay of d before port 0
+abbrev pub over-two : ℕ → Run
+over-two d = record {
+  releases = one-release;
+  firstSub = λ v. 0;
+  firstVl = λ e. 0;
+  choice = λ t. record {
+    send = λ m. 2;
+    reach = cond (eqb t 2) (message-of 0 0 ∷ []) [];
+    flight = λ h g. d + h;
+    enter = λ p. cond (eqb t 87 && eqb p 0) (record { frame = frame 2; hop = 0 } ∷ []) (cond (eqb t 173 && eqb p 1) (record { frame = frame 2; hop = 1 } ∷ []) []);
+    receive = λ h g. 3;
+  };
+}
+
+abbrev pub r : Run
+r = over-two 1
+
+pub queue-lands : landed 2 (allSending two 2 (released r 2) (r .choice 2) (state two r 2)) ≡ message-of 0 0 ∷ []
+unfolding state
+queue-lands = refl
+
+pub port-0-lands : reaches two 87 (r .choice 87) (state two r 87) 0 ≡ record { frame = frame 2; hop = 0 } ∷ []
+unfolding state hopsOn passing vlsOf packetLines cut packets up fullPacket protocolOverhead lineBytes lineOf
+port-0-lands = refl
+
+-- hop 0 is a parent: what leaves it goes to hop 1, and to no destination
+pub port-1-lands : reaches two 173 (r .choice 173) (state two r 173) 1 ≡ record { frame = frame 2; hop = 1 } ∷ []
+unfolding state hopsOn passing
+port-1-lands = refl
+
+pub leaves-hop-1 : leaves two 257 (r .choice 257) (state two r 257) 1 ≡ frame 2 ∷ []
+unfolding state
+leaves-hop-1 = refl
+
+-- a switch delay of 10 ticks, where 9 is the greatest, is not permitted
+pub not-10 : PermittedBelow two (over-two 10) 87 → ⊥
+unfolding state passing vlsOf packetLines cut packets up fullPacket protocolOverhead lineBytes lineOf
+not-10 p = omega (arith, p .flight-greatest 86 0 (frame 2) (omega arith) (omega arith) (List·Memᴰ·head refl))
+
+-- ---- one VL with two hops without parent: a frame that its end system has sent whole goes to both
+abbrev pub fork : Network
+fork = record {
+  sendLeast = 0;
+  sendGreatest = 0;
+  receiveLeast = 0;
+  receiveGreatest = 0;
+  systems = record { perByte = 1 } ∷ [];
+  vls = record { system = 0; gap = 12500; subLinks = 1; lmax = 64 } ∷ [];
+  streams = record { vl = 0; subLink = 0; sampling = false; size = 10; leastSize = 10; period = 12500; jitter = 0 } ∷ [];
+  ports = record { perByte = 1; delayLeast = 0; delayGreatest = 0 } ∷ record { perByte = 1; delayLeast = 0; delayGreatest = 0 } ∷ [];
+  hops = record { vl = 0; port = 0; parent = none } ∷ record { vl = 0; port = 1; parent = none } ∷ [];
+}
+
+abbrev pub sending : State
+sending = record {
+  sending = [];
+  queue = λ v. record { lanes = []; next = 0 };
+  end = λ e. record { lanes = []; link = some (record { job = frame 0; ends = 84 }) };
+  flying = λ h. [];
+  port = λ p. Fifo.empty;
+  receiving = λ h. [];
+}
+
+pub both-hops : (setsOut fork 84 (at-once .choice 84) sending 0 ≡ frame 0 ∷ []) × (setsOut fork 84 (at-once .choice 84) sending 1 ≡ frame 0 ∷ [])
+both-hops = (refl, refl)
