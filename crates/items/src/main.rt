@@ -1,20 +1,34 @@
 // Reads many tables to analyse (T) or unpack (U) and many lists to write (W), one item after the other, and writes each answer.
 // The items and the answers come from an implementation of 01 that shares nothing with this one; tests/held says how each is laid out.
-ghost use Prim.Native.Nat.{_≤_, _<_};
-ghost use Rattle.io.specs.Counts.{Counts};
-use libc::STDIN_FILENO;
-use libc::STDOUT_FILENO;
+mod counts;
+mod input;
+mod text;
+
+use crate::counts::LONGEST;
+use crate::counts::all_of;
+use crate::counts::of_bytes;
+use crate::counts::of_numbers;
+use crate::input::read_byte;
+use crate::input::read_bytes;
+use crate::input::read_length;
+use crate::input::read_lengths;
+use crate::input::read_numbers;
+use crate::text::accepts;
+use crate::text::end_item;
+use crate::text::put_answer;
+use crate::text::put_byte;
+use crate::text::put_bytes;
+use crate::text::put_line;
+use crate::text::put_number;
+use crate::text::put_numbers;
+use crate::text::rest;
+use crate::text::rest_of_bytes;
 use table::Answer;
 use table::Unpacked;
 
 const MOST_BYTES: usize = 16_384;
 
 const MOST_NUMBERS: usize = 6_150;
-
-// The longest list of 'W' and 'U'.
-const LONGEST: usize = 3_600;
-
-const LONGEST_BYTES: usize = 28_800;
 
 // What every lent place holds before a call, so that one that is not written shows.
 const BEFORE: u64 = 7;
@@ -23,272 +37,6 @@ const BEFORE_BYTE: u8 = 7;
 
 // The text of an item is gathered in so many bytes, and written out where no more than 96 are left.
 const TEXT: usize = 4_096;
-
-const FULL: usize = 4_000;
-
-// n, or how many there are where that is less.
-fn of_numbers(n: usize, list: &[u64]) -> usize
-    ensures { λ r. ⌜ Counts r (now (list .entry)) ⌝ }
-{
-    if n <= list.len() {
-        return n;
-    }
-    list.len()
-}
-
-fn of_bytes(n: usize, bytes: &[u8]) -> usize
-    ensures { λ r. ⌜ Counts r (now (bytes .entry)) ⌝ }
-{
-    if n <= bytes.len() {
-        return n;
-    }
-    bytes.len()
-}
-
-// How many numbers n records have, or how many bytes n numbers.
-fn all_of(n: usize, size: usize) -> usize {
-    if n <= LONGEST {
-        if size <= 8 {
-            return n * size;
-        }
-    }
-    0
-}
-
-// ---- what is written: each puts something at a place of a text, if there is room, and answers the place behind it
-
-fn put_byte(text: &mut [u8], at: usize, byte: u8) -> usize {
-    if text.len() <= at {
-        return at;
-    }
-    text[at] = byte;
-    at + 1
-}
-
-fn put_number(text: &mut [u8], at: usize, n: u64) -> usize {
-    let mut digits = [0u8; 20];
-    let count = io::decimal(n, &mut digits);
-    let mut next = at;
-    let mut i = 0;
-    while i < 20 {
-        if count <= i {
-            return next;
-        }
-        next = put_byte(text, next, digits[i]);
-        i += 1;
-    }
-    next
-}
-
-fn write_text(text: &[u8], used: usize) {
-    if used <= text.len() {
-        io::write_all(STDOUT_FILENO, &text[..used]);
-    }
-}
-
-// Writes the text out where it is nearly full.
-fn flush(text: &[u8], at: usize) -> usize {
-    if at < FULL {
-        return at;
-    }
-    write_text(text, at);
-    0
-}
-
-fn put_words(text: &mut [u8], at: usize, words: &[u8]) -> usize {
-    let mut next = at;
-    let mut i = 0;
-    while i < words.len() {
-        next = put_byte(text, next, words[i]);
-        i += 1;
-    }
-    next
-}
-
-// A number, with a space before it unless it is the first of its line.
-fn put_entry(text: &mut [u8], at: usize, i: usize, n: u64) -> usize {
-    let next = flush(text, at);
-    if i == 0 {
-        return put_number(text, next, n);
-    }
-    let behind = put_byte(text, next, b' ');
-    put_number(text, behind, n)
-}
-
-// Numbers with one space between, and the line's end.
-fn put_line(text: &mut [u8], at: usize, list: &[u64]) -> usize {
-    let mut next = at;
-    let mut i = 0;
-    while i < list.len() {
-        next = put_entry(text, next, i, list[i]);
-        i += 1;
-    }
-    put_byte(text, next, b'\n')
-}
-
-fn byte_value(b: u8) -> u64
-    ensures { λ r. ⌜ r < 256 ⌝ }
-{
-    b as u64
-}
-
-fn put_hex(text: &mut [u8], at: usize, byte: u8) -> usize {
-    let next = flush(text, at);
-    let mut digits = [0u8; 16];
-    io::hex(byte_value(byte), 2, &mut digits);
-    let behind = put_byte(text, next, digits[0]);
-    put_byte(text, behind, digits[1])
-}
-
-// Bytes in lowercase hex, and the line's end.
-fn put_hex_line(text: &mut [u8], at: usize, bytes: &[u8]) -> usize {
-    let mut next = at;
-    let mut i = 0;
-    while i < bytes.len() {
-        next = put_hex(text, next, bytes[i]);
-        i += 1;
-    }
-    put_byte(text, next, b'\n')
-}
-
-// The line of the first n numbers of a list, or of all where it has fewer.
-fn put_numbers(text: &mut [u8], at: usize, list: &[u64], n: usize) -> usize {
-    let used = of_numbers(n, list);
-    put_line(text, at, &list[..used])
-}
-
-// The line of the first n bytes where the lists are accepted; none on a refusal.
-fn put_bytes(text: &mut [u8], at: usize, accepted: bool, bytes: &[u8], n: usize) -> usize {
-    if !accepted {
-        return at;
-    }
-    let used = of_bytes(n, bytes);
-    put_hex_line(text, at, &bytes[..used])
-}
-
-fn put_answer(text: &mut [u8], kind: u8, a: Answer) -> usize {
-    let before = put_byte(text, 0, kind);
-    let b = put_byte(text, before, b' ');
-    let c = put_number(text, b, a.number);
-    let d = put_byte(text, c, b' ');
-    let e = put_number(text, d, a.section);
-    let f = put_byte(text, e, b' ');
-    put_number(text, f, a.row)
-}
-
-// An item's last line, how many lent places behind what was written are not zero; and all its text goes out.
-fn end_item(text: &mut [u8], at: usize, rest: u64) {
-    let a = put_words(text, at, b"rest ");
-    let b = put_number(text, a, rest);
-    let used = put_byte(text, b, b'\n');
-    write_text(text, used);
-}
-
-// `others` and how many numbers from place n on are not zero.
-fn rest(list: &[u64], n: usize, others: u64) -> u64 {
-    let mut count = others;
-    let mut i = n;
-    while i < list.len() {
-        if list[i] != 0 {
-            count = std::num::wrapping_add_u64(count, 1);
-        }
-        i += 1;
-    }
-    count
-}
-
-fn rest_of_bytes(bytes: &[u8], n: usize) -> u64 {
-    let mut count = 0u64;
-    let mut i = n;
-    while i < bytes.len() {
-        if bytes[i] != 0 {
-            count = std::num::wrapping_add_u64(count, 1);
-        }
-        i += 1;
-    }
-    count
-}
-
-fn accepts(a: Answer) -> bool {
-    a.number == 0
-}
-
-// ---- what is read
-
-// The next byte; 0 where the input ends.
-fn read_byte() -> u64
-    ensures { λ r. ⌜ r < 256 ⌝ }
-{
-    let mut bytes = [0u8; 1];
-    io::read_full(STDIN_FILENO, &mut bytes);
-    byte_value(bytes[0])
-}
-
-// The number that bytes spell, the highest first.
-fn value(bytes: &[u8]) -> u64 {
-    let mut v = 0u64;
-    let mut i = 0;
-    while i < bytes.len() {
-        v = v % 72_057_594_037_927_936 * 256 + byte_value(bytes[i]);
-        i += 1;
-    }
-    v
-}
-
-// A length of four bytes, at most `most`.
-fn read_length(most: usize) -> usize
-    ensures { λ r. ⌜ r ≤ most ⌝ }
-{
-    let mut bytes = [0u8; 4];
-    io::read_full(STDIN_FILENO, &mut bytes);
-    let n = value(&bytes) as usize;
-    if most < n {
-        return most;
-    }
-    n
-}
-
-// The first n of these bytes.
-fn read_bytes(bytes: &mut [u8], n: usize) {
-    let used = of_bytes(n, bytes);
-    io::read_full(STDIN_FILENO, &mut bytes[..used]);
-}
-
-// The first n numbers of the list are those that bytes spell, eight bytes each.
-fn values(bytes: &[u8], list: &mut [u64], n: usize) {
-    let used = of_numbers(n, list);
-    let mut at = 0;
-    let mut i = 0;
-    while i < used {
-        if bytes.len() < 8 {
-            return;
-        }
-        if bytes.len() - 8 < at {
-            return;
-        }
-        let end = at + 8;
-        list[i] = value(&bytes[at..end]);
-        at = end;
-        i += 1;
-    }
-}
-
-fn read_numbers(list: &mut [u64], n: usize) {
-    let mut bytes = [0u8; LONGEST_BYTES];
-    read_bytes(&mut bytes, all_of(n, 8));
-    values(&bytes, list, n);
-}
-
-// The lengths of the six lists.
-fn read_lengths() -> [usize; 6] {
-    let delays = read_length(8);
-    let systems = read_length(66);
-    let vls = read_length(1_030);
-    let streams = read_length(LONGEST);
-    let ports = read_length(390);
-    let hops = read_length(3_080);
-    [delays, systems, vls, streams, ports, hops]
-}
 
 // ---- a table to analyse
 

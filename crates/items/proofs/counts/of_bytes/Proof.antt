@@ -1,9 +1,9 @@
--- `items::of_bytes` meets its contract: the lesser of n and the length counts bytes at the start.
+-- `items::counts::of_bytes` meets its contract: the lesser of n and the length counts bytes at the start.
 -- Assumes nothing.
 use native.Mathlib.Nat.{le-refl}
 use Rattle.items.proofs.CountLaws.{counts-at-most}
-use Rattle.items.proofs.of_bytes.Statement.{statement}
-use Rattle.items.proofs.of_bytes.Tie as tie
+use Rattle.items.proofs.counts.of_bytes.Statement.{statement}
+use Rattle.items.proofs.counts.of_bytes.Tie as tie
 
 returns : tie.Need-returns
 returns c = counts-at-most _ _ (c .if1 .taken)

@@ -1,9 +1,9 @@
--- `items::of_numbers` meets its contract: the lesser of n and the length counts numbers at the start.
+-- `items::counts::of_numbers` meets its contract: the lesser of n and the length counts numbers at the start.
 -- Assumes nothing.
 use native.Mathlib.Nat.{le-refl}
 use Rattle.items.proofs.CountLaws.{counts-at-most}
-use Rattle.items.proofs.of_numbers.Statement.{statement}
-use Rattle.items.proofs.of_numbers.Tie as tie
+use Rattle.items.proofs.counts.of_numbers.Statement.{statement}
+use Rattle.items.proofs.counts.of_numbers.Tie as tie
 
 returns : tie.Need-returns
 returns c = counts-at-most _ _ (c .if1 .taken)

@@ -1,10 +1,10 @@
--- `items::value` is safe and ends: what is below 2 ^ 56 takes one byte more, and it takes one byte a turn.
+-- `items::input::value` is safe and ends: what is below 2 ^ 56 takes one byte more, and it takes one byte a turn.
 -- Assumes nothing.
 use borrow.Author.Needs.{needs}
 use Prim.Native.Nat.{_-_, _≤_}
 use lib.ListN.{length}
-use Rattle.items.proofs.value.Statement.{statement}
-use Rattle.items.proofs.value.Tie as tie
+use Rattle.items.proofs.input.value.Statement.{statement}
+use Rattle.items.proofs.input.value.Tie as tie
 
 abbrev Inv-loop : tie.InvT-loop
 Inv-loop bytes v₀ i₀ v i = i ≤ length bytes

@@ -1,10 +1,10 @@
--- `items::rest_of_bytes` is safe and ends: it takes one byte a turn.
+-- `items::text::rest_of_bytes` is safe and ends: it takes one byte a turn.
 -- Assumes nothing.
 use borrow.Author.Needs.{needs}
 use Prim.Native.Nat.{_-_}
 use lib.ListN.{length}
-use Rattle.items.proofs.rest_of_bytes.Statement.{statement}
-use Rattle.items.proofs.rest_of_bytes.Tie as tie
+use Rattle.items.proofs.text.rest_of_bytes.Statement.{statement}
+use Rattle.items.proofs.text.rest_of_bytes.Tie as tie
 
 abbrev Inv-loop : tie.InvT-loop
 Inv-loop bytes n count₀ i₀ count i = Unit {0}

@@ -1,10 +1,10 @@
--- `items::all_of` is safe: at most 3,600 times at most 8 fits.
+-- `items::counts::all_of` is safe: at most 3,600 times at most 8 fits.
 -- Assumes nothing.
 use native.Mathlib.Omega.{arith}
 use native.Mathlib.Nat.{mul-le-mul}
 use borrow.Author.Needs.{needs}
-use Rattle.items.proofs.all_of.Statement.{statement}
-use Rattle.items.proofs.all_of.Tie as tie
+use Rattle.items.proofs.counts.all_of.Statement.{statement}
+use Rattle.items.proofs.counts.all_of.Tie as tie
 
 mul-result : tie.Need-mul-result
 mul-result c = record { fits = omega (arith, mul-le-mul (c .before .if1 .taken) (c .if2 .taken)) }

@@ -1,11 +1,11 @@
--- `items::put_words` is safe and ends: it takes one byte a turn, and the text keeps its length.
+-- `items::text::put_words` is safe and ends: it takes one byte a turn, and the text keeps its length.
 -- Assumes nothing.
 use borrow.Author.Needs.{needs}
 use Prim.Native.Nat.{_-_, _≤_}
 use mathlib.Core.Path.{_≡_}
 use lib.ListN.{length}
-use Rattle.items.proofs.put_words.Statement.{statement}
-use Rattle.items.proofs.put_words.Tie as tie
+use Rattle.items.proofs.text.put_words.Statement.{statement}
+use Rattle.items.proofs.text.put_words.Tie as tie
 
 abbrev Inv-loop : tie.InvT-loop
 Inv-loop text₀ at words next₀ i₀ text next i = (i ≤ length words) × (length text ≡ length text₀)

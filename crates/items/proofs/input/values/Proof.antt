@@ -1,12 +1,12 @@
--- `items::values` is safe and ends: eight bytes are taken only where they lie within the list.
+-- `items::input::values` is safe and ends: eight bytes are taken only where they lie within the list.
 -- Assumes nothing.
 use native.Mathlib.Omega.{arith}
 use borrow.Author.Needs.{needs}
 use Prim.Native.Nat.{_-_, _≤_}
 use mathlib.Core.Path.{_≡_}
 use lib.ListN.{length, length-set}
-use Rattle.items.proofs.values.Statement.{statement}
-use Rattle.items.proofs.values.Tie as tie
+use Rattle.items.proofs.input.values.Statement.{statement}
+use Rattle.items.proofs.input.values.Tie as tie
 
 abbrev Inv-loop : tie.InvT-loop
 Inv-loop bytes list₀ n used at₀ i₀ list at i = (i ≤ used) × (length list ≡ length list₀)

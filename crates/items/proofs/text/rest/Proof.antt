@@ -1,10 +1,10 @@
--- `items::rest` is safe and ends: it takes one number a turn.
+-- `items::text::rest` is safe and ends: it takes one number a turn.
 -- Assumes nothing.
 use borrow.Author.Needs.{needs}
 use Prim.Native.Nat.{_-_}
 use lib.ListN.{length}
-use Rattle.items.proofs.rest.Statement.{statement}
-use Rattle.items.proofs.rest.Tie as tie
+use Rattle.items.proofs.text.rest.Statement.{statement}
+use Rattle.items.proofs.text.rest.Tie as tie
 
 abbrev Inv-loop : tie.InvT-loop
 Inv-loop list n others count₀ i₀ count i = Unit {0}

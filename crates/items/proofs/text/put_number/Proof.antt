@@ -1,11 +1,11 @@
--- `items::put_number` is safe and ends: a number has at most twenty digits.
+-- `items::text::put_number` is safe and ends: a number has at most twenty digits.
 -- Assumes nothing.
 use borrow.Author.Needs.{needs}
 use Prim.Native.Nat.{_-_, _≤_}
 use mathlib.Core.Path.{_≡_}
 use lib.ListN.{length}
-use Rattle.items.proofs.put_number.Statement.{statement}
-use Rattle.items.proofs.put_number.Tie as tie
+use Rattle.items.proofs.text.put_number.Statement.{statement}
+use Rattle.items.proofs.text.put_number.Tie as tie
 
 abbrev Inv-loop : tie.InvT-loop
 Inv-loop text₀ at n digits count next₀ i₀ text next i = (i ≤ 20) × (length text ≡ length text₀)

@@ -1,10 +1,10 @@
--- `items::write_text` is safe: it takes no more bytes than there are.
+-- `items::text::write_text` is safe: it takes no more bytes than there are.
 -- Assumes nothing.
 use mathlib.Core.Path.{sym}
 use lib.Seq.{length-take-le}
 use borrow.Author.Needs.{needs}
-use Rattle.items.proofs.write_text.Statement.{statement}
-use Rattle.items.proofs.write_text.Tie as tie
+use Rattle.items.proofs.text.write_text.Statement.{statement}
+use Rattle.items.proofs.text.write_text.Tie as tie
 
 slice-aggregate-write-all : tie.Need-slice-aggregate-write-all
 slice-aggregate-write-all c = sym (length-take-le _ _ (c .before .if1 .taken))

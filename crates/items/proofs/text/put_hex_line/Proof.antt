@@ -1,11 +1,11 @@
--- `items::put_hex_line` is safe and ends: it takes one byte a turn, and the text keeps its length.
+-- `items::text::put_hex_line` is safe and ends: it takes one byte a turn, and the text keeps its length.
 -- Assumes nothing.
 use borrow.Author.Needs.{needs}
 use Prim.Native.Nat.{_-_, _≤_}
 use mathlib.Core.Path.{_≡_}
 use lib.ListN.{length}
-use Rattle.items.proofs.put_hex_line.Statement.{statement}
-use Rattle.items.proofs.put_hex_line.Tie as tie
+use Rattle.items.proofs.text.put_hex_line.Statement.{statement}
+use Rattle.items.proofs.text.put_hex_line.Tie as tie
 
 abbrev Inv-loop : tie.InvT-loop
 Inv-loop text₀ at bytes next₀ i₀ text next i = (i ≤ length bytes) × (length text ≡ length text₀)

@@ -1,11 +1,11 @@
--- `items::put_line` is safe and ends: it takes one number a turn, and the text keeps its length.
+-- `items::text::put_line` is safe and ends: it takes one number a turn, and the text keeps its length.
 -- Assumes nothing.
 use borrow.Author.Needs.{needs}
 use Prim.Native.Nat.{_-_, _≤_}
 use mathlib.Core.Path.{_≡_}
 use lib.ListN.{length}
-use Rattle.items.proofs.put_line.Statement.{statement}
-use Rattle.items.proofs.put_line.Tie as tie
+use Rattle.items.proofs.text.put_line.Statement.{statement}
+use Rattle.items.proofs.text.put_line.Tie as tie
 
 abbrev Inv-loop : tie.InvT-loop
 Inv-loop text₀ at list next₀ i₀ text next i = (i ≤ length list) × (length text ≡ length text₀)
