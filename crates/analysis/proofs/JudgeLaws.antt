@@ -23,7 +23,7 @@ use Rattle.table.specs.Sections.{headerRow, from, lent}
 use Rattle.table.specs.Unpack.{answer1, answer2, answer3, badRow, badSection, answerAtRow, answer4, left}
 use Rattle.table.specs.RoundTrip.{unpacked}
 use Rattle.table.specs.Read.{networkIn, badRefSection, answerAtReference, answer5, answer6, readAnswer}
-use Rattle.table.proofs.ListLaws.{cleared-length}
+use Rattle.unpacker.proofs.ListLaws.{cleared-length}
 use Rattle.rows.specs.Rows.{rowsOf}
 use Rattle.rows.specs.Refusals.{sendsLate, lateSystem, tooManyRows, tooShort, endlessSubLink, endlessVl, endless, endlessPort}
 use Rattle.analysis.specs.declared.Analysed.{Analysed}

@@ -19,8 +19,8 @@ ghost use Rattle.analysis.specs.Judging.{analysed, Judged};
 pub fn analyse(table: &[u8], result: &mut [u64]) -> Analysed
     ensures { λ r. ⌜ Analyses (now (table .entry)) (length (now (result .entry))) r (now (result .exit)) ⌝ }
 {
-    clear(result);
-    let a = table::check(table);
+    unpacker::clear(result);
+    let a = reader::check(table);
     let number = a.number;
     if 0 < number {
         return refused(a);
@@ -28,16 +28,6 @@ pub fn analyse(table: &[u8], result: &mut [u64]) -> Analysed
     let mut net = [0u64; SHEET];
     loading::load(table, &mut net);
     judge(&net, result)
-}
-
-fn clear(result: &mut [u64])
-    ensures { λ _. ⌜ now (result .exit) ≡ replicate (length (now (result .entry))) 0 ⌝ }
-{
-    let mut i = 0;
-    while i < result.len() {
-        result[i] = 0;
-        i += 1;
-    }
 }
 
 // ---- the answers 7 to 10, and the rows

@@ -21,7 +21,7 @@ pub fn load(table: &[u8], net: &mut [u64; SHEET])
     let mut streams = [0u64; 3_584];
     let mut ports = [0u64; 384];
     let mut hops = [0u64; 3_072];
-    let u = table::unpack(
+    let u = unpacker::unpack(
         table,
         &mut delays,
         &mut systems,

@@ -160,7 +160,7 @@ fn unpack_to(
     ports: &mut [u64],
     hops: &mut [u64],
 ) {
-    let u = table::unpack(bytes, delays, systems, vls, streams, ports, hops);
+    let u = unpacker::unpack(bytes, delays, systems, vls, streams, ports, hops);
     put_unpacked(u, delays, systems, vls, streams, ports, hops);
 }
 
@@ -239,7 +239,7 @@ fn write_from(
     hops: &[u64],
     out: &mut [u8],
 ) {
-    let w = table::write(delays, systems, vls, streams, ports, hops, out);
+    let w = writer::write(delays, systems, vls, streams, ports, hops, out);
     put_written(w.answer, w.length, out);
 }
 

@@ -9,8 +9,8 @@ use Rattle.packedtable.proofs.avulgjesh_unpack.Kinds as unpack-kinds
 use Rattle.packedtable.proofs.avulgjesh_unpack.Reads as unpack-reads
 use Rattle.packedtable.proofs.avulgjesh_write.Kinds as write-kinds
 use Rattle.packedtable.proofs.avulgjesh_write.Reads as write-reads
-use Rattle.table.proofs.UnpackUnique.{unpack-settles}
-use Rattle.table.proofs.WriteUnique.{write-settles}
+use Rattle.unpacker.proofs.Unique.{unpack-settles}
+use Rattle.writer.proofs.Unique.{write-settles}
 
 unpack-same : (x y : UnpackAnswer) → unpackSaid x ≡ unpackSaid y → x ≡ y
 unfolding unpackSaid

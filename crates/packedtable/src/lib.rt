@@ -1,7 +1,7 @@
 // What a supplier of tables links: the unpacker and the writer of the packed table, as functions that C calls.
 // Bytes and flat lists of numbers are lent; a struct of number, section, row, test and values goes out. Both answer for all input, as the unpacker and the writer do.
-use table::unpack;
-use table::write;
+use unpacker::unpack;
+use writer::write;
 ghost use lib.ListN.{length};
 ghost use Rattle.table.specs.Unpack.{Unpacks};
 ghost use Rattle.table.specs.Write.{Writes};

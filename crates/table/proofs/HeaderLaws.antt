@@ -28,9 +28,8 @@ use Rattle.layout.proofs.BackLaws.{isNumber, numberAt, same-number}
 use Rattle.layout.proofs.RoomLaws.{room-yes, row-there}
 use Rattle.table.specs.Sections.{headerRow, rows, from, row}
 use Rattle.table.specs.Write.{Lists, headerFor}
-use Rattle.table.proofs.SectionLaws.{padded, start}
+use Rattle.table.proofs.SectionLaws.{padded, start, from-most}
 use Rattle.table.proofs.WriteLaws.{count}
-use Rattle.table.proofs.PlaceLaws.{from-most}
 
 -- ---- the numbers
 -- either way they stay what they are

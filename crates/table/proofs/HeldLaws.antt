@@ -1,8 +1,8 @@
 -- What the reader's lists hold once the unpacker has accepted: the records of each section at their front, whose numbers are what the rows of the table mean, and so are in their ranges.
 -- Assumes nothing.
-use Prim.Native.Nat.{ℕ, _+_, _-_, _*_, _/_, _≤_, _<_}
+use Prim.Native.Nat.{ℕ, _+_, _-_, _*_, _≤_, _<_}
 use mathlib.Core.Bool.{true}
-use mathlib.Core.List.{List, [], _∷_}
+use mathlib.Core.List.{List}
 use mathlib.Core.Path.{_≡_, sym, ap, _∙_}
 use native.Mathlib.Omega.{arith}
 use borrow.Author.Tests.{eq-eqb}
@@ -17,12 +17,10 @@ use Rattle.layout.proofs.RoomLaws.{row-fits}
 use Rattle.layout.proofs.PlainLaws.{PlainEndSystem, end-system-plain, PlainVl, vl-plain, PlainStream, stream-plain, PlainPort, port-plain}
 use Rattle.table.specs.declared.Answer.{Answer}
 use Rattle.table.specs.declared.Unpacked.{Unpacked}
-use Rattle.table.specs.Answers.{accepted, firstGiven}
+use Rattle.table.specs.Answers.{accepted}
 use Rattle.table.specs.Sections.{rows, from, row, recordOf, records, lent}
-use Rattle.table.specs.Unpack.{Lengths, unpackAnswer, unpacks, delaysOf, left, taken, Unpacks}
-use Rattle.table.specs.RoundTrip.{unpacked}
-use Rattle.table.specs.Read.{networkIn, answer5, answer6, readAnswer}
-use Rattle.table.specs.Referring.{overAll, Sized}
+use Rattle.table.specs.Unpack.{Lengths, unpackAnswer, unpacks, left, taken, Unpacks}
+use Rattle.table.specs.Read.{readAnswer}
 use Rattle.table.proofs.AnswerLaws.{Sound, unpack-was}
 use Rattle.table.proofs.SectionLaws.{length-records, record-at}
 use Rattle.table.proofs.UnpackLaws.{sound-rows}
@@ -45,21 +43,6 @@ module _ (bytes : List ℕ) where
       ∙ ap (λ (r : List ℕ). getD r k 0) (record-at bytes s n i h)
       ∙ getD-take (listed s) (converted Reading (layout s) (row bytes s i)) k 0 l
 
-  -- the records of VLs and streams
-  vls-held : length (records bytes 2 (rows bytes 2)) / 4 ≡ rows bytes 2
-  vls-held = let e = length-records bytes 2 (rows bytes 2) ∙ ap (λ (m : ℕ). rows bytes 2 * m) (listed-is 2) in omega arith
-
-  streams-held : length (records bytes 3 (rows bytes 3)) / 7 ≡ rows bytes 3
-  streams-held = let e = length-records bytes 3 (rows bytes 3) ∙ ap (λ (m : ℕ). rows bytes 3 * m) (listed-is 3) in omega arith
-
-  vl-number-read : (i k : ℕ) → i < rows bytes 2 → k < 4 → getD (records bytes 2 (rows bytes 2)) (i * 4 + k) 0 ≡ getD (converted Reading (layout 2) (row bytes 2 i)) k 0
-  vl-number-read i k h l =
-      ap (λ (m : ℕ). getD (records bytes 2 (rows bytes 2)) (i * m + k) 0) (sym (listed-is 2)) ∙ record-number 2 (rows bytes 2) i k h (omega (arith, listed-is 2))
-
-  stream-number-read : (i k : ℕ) → i < rows bytes 3 → k < 7 → getD (records bytes 3 (rows bytes 3)) (i * 7 + k) 0 ≡ getD (converted Reading (layout 3) (row bytes 3 i)) k 0
-  stream-number-read i k h l =
-      ap (λ (m : ℕ). getD (records bytes 3 (rows bytes 3)) (i * m + k) 0) (sym (listed-is 3)) ∙ record-number 3 (rows bytes 3) i k h (omega (arith, listed-is 3))
-
   -- ---- the rows in plain facts
   module _ (sound : Sound bytes) (i : ℕ) where
     pub system-row : i < rows bytes 1 → PlainEndSystem (converted Reading (layout 1) (row bytes 1 i))
@@ -73,17 +56,6 @@ module _ (bytes : List ℕ) where
 
     pub port-row : i < rows bytes 4 → PlainPort (converted Reading (layout 4) (row bytes 4 i))
     port-row h = port-plain (row bytes 4 i) (sound-rows bytes sound 4 i (omega arith) h)
-
-  pub records-sized : Sound bytes → Sized (records bytes 2 (rows bytes 2)) (records bytes 3 (rows bytes 3))
-  records-sized sound =
-      record {
-        lmax-least = λ v h. let l : v < rows bytes 2 = omega (arith, vls-held) in omega (arith, vl-row sound v l .lmax-least, vl-number-read v 3 l (omega arith));
-        lmax-greatest = λ v h. let l : v < rows bytes 2 = omega (arith, vls-held) in omega (arith, vl-row sound v l .lmax-greatest, vl-number-read v 3 l (omega arith));
-        size-least = λ s h.
-            let l : s < rows bytes 3 = omega (arith, streams-held) in
-            omega (arith, stream-row sound s l .least-m-least, stream-row sound s l .least-m-greatest, stream-number-read s 3 l (omega arith));
-        size-greatest = λ s h. let l : s < rows bytes 3 = omega (arith, streams-held) in omega (arith, stream-row sound s l .m-greatest, stream-number-read s 3 l (omega arith));
-      }
 
 -- ---- a list that was lent and filled begins with what was written
 filled : (n m : ℕ) (numbers list : List ℕ) → list ≡ left true n numbers → m ≡ length numbers → take m list ≡ numbers
@@ -101,18 +73,18 @@ module _ {bytes : List ℕ} {n : Lengths} {r : Unpacked} {delays systems vls str
   handed-on h = u .answer ∙ refused-same bytes n big (rw (u .answer) at h)
 
   module _ (h : r .answer .number ≤ 0) where
-    accepts : unpackAnswer bytes n ≡ accepted
-    accepts = unpack-accepts bytes n big (rw (u .answer) at h) .0
+    pub unpacker-accepts : unpackAnswer bytes n ≡ accepted
+    unpacker-accepts = unpack-accepts bytes n big (rw (u .answer) at h) .0
 
-    sound : Sound bytes
-    sound = unpack-was bytes n accepts
+    pub held-sound : Sound bytes
+    held-sound = unpack-was bytes n unpacker-accepts
 
     ok : unpacks bytes n ≡ true
     unfolding unpacks
-    ok = eq-eqb (unpackAnswer bytes n .number) 0 (ap (λ (a : Answer). a .number) accepts)
+    ok = eq-eqb (unpackAnswer bytes n .number) 0 (ap (λ (a : Answer). a .number) unpacker-accepts)
 
     pub counts-few : Few bytes
-    counts-few = few bytes (sound .header)
+    counts-few = few bytes (held-sound .header)
 
     -- the counts that it hands out
     counted : (s c : ℕ) → c ≡ taken (unpacks bytes n) bytes s → c ≡ rows bytes s
@@ -156,17 +128,3 @@ module _ {bytes : List ℕ} {n : Lengths} {r : Unpacked} {delays systems vls str
 
     pub hops-front : (r .hops * 3 ≤ length hops) × (take (r .hops * 3) hops ≡ records bytes 5 (rows bytes 5))
     hops-front = held 5 (r .hops * 3) (n .hops) hops (rw (listed-is 5) (omega (arith, hops-count))) (u .hops-left)
-
-    -- what the references ask for, and what they then answer
-    pub sizes-good : Sized (take (r .vls * 4) vls) (take (r .streams * 7) streams)
-    sizes-good = rw (vls-front .1, streams-front .1) (records-sized bytes sound)
-
-    pub answered : (x : Answer)
-        → x ≡ firstGiven
-        (answer5 (overAll (delaysOf bytes) (take (r .systems) systems) (take (r .vls * 4) vls) (take (r .streams * 7) streams) (take (r .ports * 3) ports) (take (r .hops * 3) hops))
-        ∷ answer6 (overAll (delaysOf bytes) (take (r .systems) systems) (take (r .vls * 4) vls) (take (r .streams * 7) streams) (take (r .ports * 3) ports) (take (r .hops * 3) hops))
-        ∷ [])
-        → x ≡ readAnswer bytes
-    unfolding networkIn unpacked
-    answered x e =
-        rw (systems-front .1, vls-front .1, streams-front .1, ports-front .1, hops-front .1) at e ∙ sym (unpack-accepts bytes n big (rw (u .answer) at h) .1)

@@ -1,4 +1,4 @@
--- The sections of a table and their rows: each row is where the rows before it end, and the records are what the rows mean, as padding means 0.
+-- The sections of a table and their rows: each row is where the rows before it end, they are few, and the records are what the rows mean, as padding means 0.
 -- Assumes nothing.
 use mathlib.Core.Path.{_≡_, refl, sym, ap, ap₂, _∙_}
 use mathlib.Core.Bool.{Bool, true, false}
@@ -6,7 +6,7 @@ use mathlib.Core.List.{List, [], _∷_, _++_}
 use mathlib.Core.Logic.{⊎-elim}
 use mathlib.Core.Option.{none, some}
 use Prim.Native.Nat.{ℕ, zero, suc, _+_, _-_, _*_, _^_, _≤_, _<_}
-use native.Mathlib.Nat.{le-of-suc-le-suc, eq-or-lt-of-le, mul-le-mul-right}
+use native.Mathlib.Nat.{le-of-suc-le-suc, eq-or-lt-of-le, mul-le-mul, mul-le-mul-right}
 use native.Mathlib.Omega.{arith}
 use lib.Dec.{eqb}
 use lib.ListN.{length, getD, take, drop, replicate, length-append, length-drop, length-replicate, getD-replicate, take-append-drop}
@@ -21,10 +21,11 @@ use Rattle.layout.specs.Layout.{layout, blank, widths, size}
 use Rattle.layout.specs.Fields.{meaning, convert}
 use Rattle.base.specs.Tests.{numberOr0}
 use Rattle.layout.specs.Rows.{converted, listed}
-use Rattle.layout.proofs.LayoutLaws.{listed-fields, unlisted, whole-bytes}
+use Rattle.layout.proofs.LayoutLaws.{listed-fields, unlisted, whole-bytes, size-most}
+use Rattle.layout.proofs.ReadLaws.{count-lt}
 use Rattle.layout.proofs.RowLaws.{length-converted, converted-at}
 use Rattle.layout.proofs.RoomLaws.{room-yes, row-there}
-use Rattle.table.specs.Sections.{rows, from, row, recordOf, records}
+use Rattle.table.specs.Sections.{headerRow, rows, from, row, recordOf, records}
 
 -- ---- padding means 0
 padding-means : (s k n : ℕ) → listed s ≤ k → numberOr0 (convert Reading (getD (layout s) k blank) n) ≡ 0
@@ -97,6 +98,22 @@ module _ (bytes : List ℕ) where
   unfolding from start
   from-is zero = refl
   from-is (suc s) = rw (from-is s)
+
+  -- ---- a count of rows has at most 12 bits, so that no section begins far behind
+  pub rows-few : (s : ℕ) → s < 6 → rows bytes s < 4096
+  unfolding rows headerRow
+  rows-few zero h = omega arith
+  rows-few (suc s) h = count-lt (take (size 0) bytes) 0 (suc s) h
+
+  pub section-most : (s : ℕ) → s < 6 → rows bytes s * size s ≤ 57344
+  section-most s h =
+      let few = rows-few s h in
+      mul-le-mul {n₁ = rows bytes s} {n₂ = 4096} (omega arith) (size-most s)
+
+  pub from-most : (s : ℕ) → s ≤ 6 → from bytes s ≤ s * 57344
+  unfolding from
+  from-most zero h = omega arith
+  from-most (suc s) h = omega (arith, from-most s (omega arith), section-most s h)
 
   -- ---- a row that is there
   pub row-read : from bytes 6 ≤ length bytes → length bytes ≤ 2 ^ 32 → (s i : ℕ) → s < 6 → i < rows bytes s

@@ -27,7 +27,7 @@ use Rattle.table.proofs.SectionLaws.{padded, start, start-same, from-is
 use Rattle.table.proofs.WriteLaws.{count, meant, size-is-start, packed-is}
 use Rattle.table.proofs.HeaderLaws.{header-rows, first-row, header-short, header-meant}
 
-listed-some : (s : ℕ) → s < 6 → 0 < listed s
+pub listed-some : (s : ℕ) → s < 6 → 0 < listed s
 unfolding listed
 listed-some s h = ltb→lt _ _ (at (λ k. ltb 0 (listed k)) 6 tt s h)
 

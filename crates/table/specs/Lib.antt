@@ -1,10 +1,7 @@
 pub mod Answers
 pub mod Sections
 pub mod Unpack
-pub mod Unpacking
 pub mod Write
 pub mod RoundTrip
 pub mod Decoded
 pub mod Read
-pub mod Referring
-pub mod Writing

@@ -1,16 +1,5 @@
-// The packed table: unpacked to lists of numbers, written from such lists, and read with 01's answers 1 to 6.
-// Bytes come in from anywhere: every routine answers for all of them and leaves zeros where it refuses.
-mod examine;
-mod read;
-mod references;
-mod refusals;
-mod source;
-mod unpacker;
-mod writer;
-
-pub use read::check;
-pub use unpacker::unpack;
-pub use writer::write;
+// The packed table as definitions (specs/): its sections, what the unpacker and the writer leave, the network that it describes, 01's answers 1 to 6; and laws and theorems of these (proofs/).
+// There is no code here but the answers themselves, which `unpacker`, `writer` and `reader` give.
 
 // 01's answer: number, section and row; and the named test that failed, where the number has several.
 pub struct Answer {

@@ -82,7 +82,7 @@ fn write_whole(out: &mut [u8]) {
     let streams = STREAMS;
     let ports = PORTS;
     let hops = HOPS;
-    table::write(&delays, &systems, &vls, &streams, &ports, &hops, out);
+    writer::write(&delays, &systems, &vls, &streams, &ports, &hops, out);
 }
 
 fn whole_case() -> [u8; 59] {
@@ -95,7 +95,7 @@ fn written() {
     text(b"01, the whole case: its bytes, its answer, and its lists again\n");
     let out = whole_case();
     hex(&out);
-    answer(table::check(&out));
+    answer(reader::check(&out));
     unpacked(&out);
     text(b"01, number 10: 13 bytes; the VL record\n");
     first_bytes(&out, 13);
@@ -109,7 +109,7 @@ fn record(systems: &[u64], vls: &[u64]) {
     let delays = DELAYS;
     let none = [0u64; 0];
     let mut out = [0u8; 18];
-    let w = table::write(&delays, systems, vls, &none, &none, &none, &mut out);
+    let w = writer::write(&delays, systems, vls, &none, &none, &none, &mut out);
     answer(w.answer);
     hex(&out[15..18]);
 }
@@ -121,7 +121,7 @@ fn unpacked(bytes: &[u8]) {
     let mut streams = [9u64; 14];
     let mut ports = [9u64; 3];
     let mut hops = [9u64; 6];
-    let u = table::unpack(
+    let u = unpacker::unpack(
         bytes,
         &mut delays,
         &mut systems,
@@ -148,7 +148,7 @@ fn changed(at: usize, width: usize, value: u64) {
     text(b" ");
     number(value);
     text(b": ");
-    answer(table::check(&bytes));
+    answer(reader::check(&bytes));
 }
 
 // Version, counts, delays, padding.
@@ -341,13 +341,13 @@ fn routed(hops: &[u64]) {
     let ports = TEN_PORTS;
     let none = [0u64; 0];
     let mut out = [0u8; 100];
-    let w = table::write(&delays, &systems, &vls, &none, &ports, hops, &mut out);
+    let w = writer::write(&delays, &systems, &vls, &none, &ports, hops, &mut out);
     first_bytes(&out, w.length);
 }
 
 fn first_bytes(bytes: &[u8], n: usize) {
     if n <= bytes.len() {
-        answer(table::check(&bytes[..n]));
+        answer(reader::check(&bytes[..n]));
     }
 }
 
@@ -383,7 +383,7 @@ fn write_with(vls: &[u64], hops: &[u64], out: &mut [u8]) {
     let delays = DELAYS;
     let systems = SYSTEMS;
     let none = [0u64; 0];
-    let w = table::write(&delays, &systems, vls, &none, &none, hops, out);
+    let w = writer::write(&delays, &systems, vls, &none, &none, hops, out);
     answer(w.answer);
     number(w.length as u64);
     text(b" ");
@@ -432,7 +432,7 @@ fn too_short() {
     let mut streams = [9u64; 14];
     let mut ports = [9u64; 3];
     let mut hops = [9u64; 5];
-    let u = table::unpack(
+    let u = unpacker::unpack(
         &bytes,
         &mut delays,
         &mut systems,

@@ -7,7 +7,7 @@ use Rattle.tables.proofs.first_bytes.Statement.{statement}
 use Rattle.tables.proofs.first_bytes.Tie as tie
 use Rattle.tables.proofs.first_bytes.Reads as reads
 use Rattle.tables.proofs.first_bytes.Lts as lts
-use Rattle.table.proofs.check.Reads as check-reads
+use Rattle.reader.proofs.check.Reads as check-reads
 use Rattle.tables.proofs.answer.Reads as answer-reads
 
 slice-aggregate-check : tie.Need-slice-aggregate-check

@@ -1,0 +1,6 @@
+pub mod PlaceLaws
+pub mod ListLaws
+pub mod ExamineLaws
+pub mod JudgeLaws
+pub mod ResultLaws
+pub mod Unique

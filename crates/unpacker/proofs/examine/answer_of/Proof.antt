@@ -1,0 +1,51 @@
+-- `unpacker::examine::answer_of` meets its contract: answers 1 and 2, and behind them 3 and 4.
+-- Assumes nothing.
+use mathlib.Core.Path.{_∙_}
+use native.Mathlib.Omega.{arith}
+use Rattle.unpacker.proofs.ExamineLaws.{too-short, header-bad, header-good}
+use Rattle.unpacker.proofs.PlaceLaws.{header-is}
+use borrow.Author.Needs.{needs}
+use Rattle.unpacker.proofs.examine.answer_of.Statement.{statement}
+use Rattle.unpacker.proofs.examine.answer_of.Tie as tie
+
+returns : tie.Need-returns
+returns c = too-short (c .before .before .args .table .now) (omega arith)
+
+fault-of-requires : tie.Need-fault-of-requires
+fault-of-requires c κs = search needs
+
+enum-known-fault : tie.Need-enum-known-fault
+enum-known-fault c = search needs
+
+enum-told : tie.Need-enum-told
+enum-told c = search needs
+
+answer-of-rows-requires : tie.Need-answer-of-rows-requires
+answer-of-rows-requires c κs = search needs
+
+returns-2 : tie.Need-returns-2
+returns-2 c =
+    let start = c .before .before .before .before .before .before .before in
+    let bytes = start .args .table .now in
+    header-bad bytes (omega (arith, c .before .before .before .before .before .if1 .left)) _ _ (header-is bytes (start .args .places) (start .pre)) (c .before .before .before .fault-of .ensures) _
+    (c .before .fault .given .1)
+
+returns-3 : tie.Need-returns-3
+returns-3 c =
+    let start = c .before .before .before .before .before .before .before in
+    let bytes = start .args .table .now in
+    c .answer-of-rows .ensures
+    ∙ header-good bytes (omega (arith, c .before .before .before .before .before .if1 .left)) _ _ (header-is bytes (start .args .places) (start .pre)) (c .before .before .before .fault-of .ensures)
+    (c .before .enum-told .given .1)
+
+pub answer-of-spec : {M : Type 1} → statement M
+answer-of-spec =
+    tie.close
+    (tie.spec
+    returns
+    fault-of-requires
+    enum-known-fault
+    enum-told
+    answer-of-rows-requires
+    returns-2
+    returns-3)

@@ -1,0 +1,40 @@
+-- `unpacker::examine::header_of` meets its contract: the first 14 bytes of a table with fewer are all that it has.
+-- Assumes nothing.
+use mathlib.Core.Path.{sym, ap, _∙_}
+use mathlib.Core.List.{List}
+use Prim.Native.Nat.{ℕ}
+use native.Mathlib.Omega.{arith}
+use lib.ListN.{take}
+use lib.Seq.{take-all, length-take-le}
+use Rattle.layout.specs.Layout.{size}
+use Rattle.layout.specs.Rows.{rowAt, wide}
+use Rattle.layout.proofs.LayoutLaws.{size-is}
+use Rattle.table.specs.Sections.{headerRow}
+use borrow.Author.Needs.{needs}
+use Rattle.unpacker.proofs.examine.header_of.Statement.{statement}
+use Rattle.unpacker.proofs.examine.header_of.Tie as tie
+
+slice-aggregate-row-at : tie.Need-slice-aggregate-row-at
+slice-aggregate-row-at c =
+    let a = c .before .before .before .args in
+    sym (length-take-le 14 (a .table .now) (omega arith))
+
+row-at-requires : tie.Need-row-at-requires
+row-at-requires c κs = search needs
+
+returns : tie.Need-returns
+unfolding headerRow
+returns c = c .row-at .ensures ∙ ap (λ (n : ℕ). wide (rowAt (take n (c .before .before .before .before .args .table .now)) 0 0)) (sym (size-is 0))
+
+row-at-requires-2 : tie.Need-row-at-requires-2
+row-at-requires-2 c κs = search needs
+
+returns-2 : tie.Need-returns-2
+unfolding headerRow
+returns-2 c =
+    let a = c .before .before .before .args in
+    c .row-at2 .ensures ∙ ap (λ (b : List ℕ). wide (rowAt b 0 0)) (sym (take-all (size 0) (a .table .now) (omega (arith, size-is 0))))
+
+pub header-of-spec : {M : Type 1} → statement M
+header-of-spec =
+    tie.close (tie.spec slice-aggregate-row-at row-at-requires returns row-at-requires-2 returns-2)

@@ -1,0 +1,121 @@
+-- `unpacker::examine::places_in` meets its contract: after s turns the rows of the first s sections are counted, and where they begin and end is known.
+-- Assumes nothing.
+use mathlib.Core.Path.{_≡_, _∙_}
+use Prim.Native.Nat.{_-_, _≤_}
+use native.Mathlib.Omega.{arith}
+use Rattle.unpacker.proofs.PlaceLaws.{counted, started}
+use Rattle.table.proofs.SectionLaws.{from-most}
+use Rattle.unpacker.proofs.PlaceLaws.{counts-start, starts-start, taken-most, start-now, counts-more, starts-more, counts-all, starts-all}
+use Rattle.unpacker.specs.Unpacking.{placesOf}
+use borrow.Author.Needs.{needs}
+use Rattle.unpacker.proofs.examine.places_in.Statement.{statement}
+use Rattle.unpacker.proofs.examine.places_in.Tie as tie
+
+abbrev Inv-loop : tie.InvT-loop
+Inv-loop table header counts₀ starts₀ s₀ counts starts s = (s ≤ 6) × (counts ≡ counted table s) × (starts ≡ started table s)
+
+abbrev μ-loop : tie.MeasureT-loop
+μ-loop table header counts₀ starts₀ s₀ counts starts s = 6 - s
+
+header-of-requires : tie.Need-header-of-requires Inv-loop μ-loop
+header-of-requires c κs = search needs
+
+loop-holds : tie.Need-loop-holds Inv-loop μ-loop
+loop-holds c = let bytes = c .before .before .args .table .now in (omega arith, counts-start bytes, starts-start bytes)
+
+count-in-requires : tie.Need-count-in-requires Inv-loop μ-loop
+count-in-requires c κs = search needs
+
+mul-end : tie.Need-mul-end Inv-loop μ-loop
+mul-end c = search needs
+
+array-read-end : tie.Need-array-read-end Inv-loop μ-loop
+array-read-end c = search needs
+
+bytes-in-requires : tie.Need-bytes-in-requires Inv-loop μ-loop
+bytes-in-requires c κs = search needs
+
+mul-end-2 : tie.Need-mul-end-2 Inv-loop μ-loop
+mul-end-2 c =
+    let a = c .before .before .before .before .before .before .args in
+    let l = c .before .before .before .loop in
+    let row = c .before .before .before .before .header-of .ensures in
+    let n = c .before .count-in .ensures in
+    omega (arith, taken-most (a .table .now) _ row (l .s) _ _ (omega arith) n (c .bytes-in .ensures))
+
+add-end : tie.Need-add-end Inv-loop μ-loop
+add-end c =
+    let a = c .before .before .before .before .before .before .args in
+    let l = c .before .before .before .loop in
+    let row = c .before .before .before .before .header-of .ensures in
+    let n = c .before .count-in .ensures in
+    omega (
+      arith,
+      taken-most (a .table .now) _ row (l .s) _ _ (omega arith) n (c .bytes-in .ensures),
+      start-now (a .table .now) _ row (l .s) _ _ (omega arith) n (c .bytes-in .ensures) _ (l .inv .2),
+      from-most (a .table .now) (l .s) (omega arith),
+    )
+
+mul-counts : tie.Need-mul-counts Inv-loop μ-loop
+mul-counts c = search needs
+
+array-write-counts : tie.Need-array-write-counts Inv-loop μ-loop
+array-write-counts c = search needs
+
+add-s : tie.Need-add-s Inv-loop μ-loop
+add-s c = search needs
+
+mul-starts : tie.Need-mul-starts Inv-loop μ-loop
+mul-starts c = search needs
+
+array-write-starts : tie.Need-array-write-starts Inv-loop μ-loop
+array-write-starts c = search needs
+
+loop-less : tie.Need-loop-less Inv-loop μ-loop
+loop-less c = search needs
+
+loop-again : tie.Need-loop-again Inv-loop μ-loop
+loop-again c =
+    let a = c .before .before .before .before .before .before .args in
+    let l = c .before .before .before .loop in
+    let row = c .before .before .before .before .header-of .ensures in
+    let n = c .before .count-in .ensures in (
+      omega arith,
+      counts-more (a .table .now) _ row (l .s) _ _ (omega arith) n (c .bytes-in .ensures) _ (l .inv .1),
+      starts-more (a .table .now) _ row (l .s) _ _ (omega arith) n (c .bytes-in .ensures) _ (l .inv .2),
+    )
+
+returns : tie.Need-returns Inv-loop μ-loop
+unfolding placesOf
+returns c =
+    let bytes = c .before .before .before .before .args .table .now in
+    let l = c .before .loop in
+    let end : l .s ≡ 6 = omega arith in
+    λ i. record {
+      header = c .before .before .header-of .ensures i;
+      counts = (l .inv .1 ∙ counts-all bytes (l .s) end) i;
+      starts = (l .inv .2 ∙ starts-all bytes (l .s) end) i;
+    }
+
+pub places-in-spec : {M : Type 1} → statement M
+places-in-spec =
+    tie.close
+    (tie.spec
+    Inv-loop
+    μ-loop
+    header-of-requires
+    loop-holds
+    count-in-requires
+    mul-end
+    array-read-end
+    bytes-in-requires
+    mul-end-2
+    add-end
+    mul-counts
+    array-write-counts
+    add-s
+    mul-starts
+    array-write-starts
+    loop-less
+    loop-again
+    returns)

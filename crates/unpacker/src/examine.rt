@@ -1,0 +1,184 @@
+// What a packed table says of itself: where its sections stand, and 01's answers 1 to 4.
+// An answer whose number is 0 stands for none, and the next test is tried.
+use layout::Fault;
+use layout::Way;
+use table::Answer;
+ghost use mathlib.Core.Path.{_≡_};
+ghost use Prim.Native.Nat.{_<_};
+ghost use Rattle.layout.specs.Rows.{wide};
+ghost use Rattle.table.specs.Answers.{accepted};
+ghost use Rattle.table.specs.Sections.{headerRow, rows, from, row};
+ghost use Rattle.unpacker.specs.Unpacking.{RowPlace, countIn, tableAnswer, lastAnswer, answerIn, answerOf, placesOf, examined};
+
+// The header row, the rows of each section, and the byte where each section begins; section 6 would begin where the table ends.
+pub struct Places {
+    pub header: [u64; 11],
+    pub counts: [usize; 6],
+    pub starts: [usize; 7],
+}
+
+// The first of the answers 1 to 4, and the places that the header tells.
+pub struct Examined {
+    pub answer: Answer,
+    pub places: Places,
+}
+
+// The table's own answer, whatever its lists will hold.
+pub(crate) fn examine(table: &[u8]) -> Examined
+    ensures { λ r. ⌜ r ≡ examined (now (table .entry)) ⌝ }
+{
+    let places = places_in(table);
+    let answer = answer_of(table, places);
+    Examined {
+        answer: answer,
+        places: places,
+    }
+}
+
+// The header is one row; field s of it counts the rows of section s.
+fn count_in(header: [u64; 11], section: usize) -> usize
+    requires { ⌜ section < 6 ⌝ }
+    ensures { λ r. ⌜ r ≡ countIn header section ⌝ }
+{
+    if section == 0 {
+        return 1;
+    }
+    header[section] as usize
+}
+
+// The header row, of the first 14 bytes alone: a table that is too long for a row to be read from it has one all the same.
+fn header_of(table: &[u8]) -> [u64; 11]
+    ensures { λ r. ⌜ r ≡ wide (headerRow (now (table .entry))) ⌝ }
+{
+    if 14 <= table.len() {
+        return layout::row_at(&table[..14], 0, 0);
+    }
+    layout::row_at(table, 0, 0)
+}
+
+fn places_in(table: &[u8]) -> Places
+    ensures { λ r. ⌜ r ≡ placesOf (now (table .entry)) ⌝ }
+{
+    let header = header_of(table);
+    let mut counts = [0usize; 6];
+    let mut starts = [0usize; 7];
+    let mut s = 0;
+    while s < 6 {
+        let n = count_in(header, s);
+        let end = starts[s] + n * layout::bytes_in(s);
+        counts[s] = n;
+        s += 1;
+        starts[s] = end;
+    }
+    Places {
+        header: header,
+        counts: counts,
+        starts: starts,
+    }
+}
+
+fn none_given() -> Answer
+    ensures { λ r. ⌜ r ≡ accepted ⌝ }
+{
+    Answer {
+        number: 0,
+        section: 0,
+        row: 0,
+        test: 0,
+    }
+}
+
+fn answer_of(table: &[u8], places: Places) -> Answer
+    requires { ⌜ places ≡ placesOf (now table) ⌝ }
+    ensures { λ r. ⌜ r ≡ tableAnswer (now (table .entry)) ⌝ }
+{
+    if table.len() < 14 {
+        return Answer {
+            number: 1,
+            section: 0,
+            row: 0,
+            test: 0,
+        };
+    }
+    let header = places.header;
+    let fault = layout::fault_of(Way::Reading, 0, header);
+    match fault {
+        Fault::Test(test) => Answer {
+            number: 2,
+            section: 0,
+            row: 0,
+            test: test,
+        },
+        Fault::Nothing => answer_of_rows(table, places),
+    }
+}
+
+// Answers 3 and 4.
+fn answer_of_rows(table: &[u8], places: Places) -> Answer
+    requires { ⌜ places ≡ placesOf (now table) ⌝ }
+    ensures { λ r. ⌜ r ≡ lastAnswer (now (table .entry)) ⌝ }
+{
+    let starts = places.starts;
+    let counts = places.counts;
+    if table.len() != starts[6] {
+        return Answer {
+            number: 3,
+            section: 0,
+            row: 0,
+            test: 0,
+        };
+    }
+    let mut s = 1;
+    while s < 6 {
+        let answer = answer_in(table, s, starts[s], counts[s]);
+        let number = answer.number;
+        if number != 0 {
+            return answer;
+        }
+        s += 1;
+    }
+    none_given()
+}
+
+// Answer 4 for the first bad row of a section that begins at byte `at` and has n rows.
+fn answer_in(table: &[u8], section: usize, at: usize, n: usize) -> Answer
+    requires { ⌜ (section < 6) × (at ≡ from (now table) section) × (n ≡ rows (now table) section) ⌝ }
+    ensures { λ r. ⌜ r ≡ answerIn (now (table .entry)) section ⌝ }
+{
+    let mut i = 0;
+    while i < n {
+        let answer = answer_at(table, section, at, i);
+        let number = answer.number;
+        if number != 0 {
+            return answer;
+        }
+        i += 1;
+    }
+    none_given()
+}
+
+// Answer 4 for a row.
+fn answer_at(table: &[u8], section: usize, at: usize, i: usize) -> Answer
+    requires { ⌜ RowPlace (now table) section at i ⌝ }
+    ensures { λ r. ⌜ r ≡ answerOf (now (table .entry)) section i ⌝ }
+{
+    let raw = raw_row(table, section, at, i);
+    let fault = layout::fault_of(Way::Reading, section, raw);
+    match fault {
+        Fault::Test(test) => Answer {
+            number: 4,
+            section: section as u64,
+            row: i as u64,
+            test: test,
+        },
+        Fault::Nothing => none_given(),
+    }
+}
+
+// The stored numbers of row i of a section that begins at byte `at`.
+pub(crate) fn raw_row(table: &[u8], section: usize, at: usize, i: usize) -> [u64; 11]
+    requires { ⌜ RowPlace (now table) section at i ⌝ }
+    ensures { λ r. ⌜ r ≡ wide (row (now (table .entry)) section i) ⌝ }
+{
+    layout::row_at(table, 8 * (at + i * layout::bytes_in(section)), section)
+}

@@ -1,0 +1,9 @@
+pub mod MeantLaws
+pub mod RefusalLaws
+pub mod ClearLaws
+pub mod RecordLaws
+pub mod PutLaws
+pub mod HeaderRow
+pub mod StageLaws
+pub mod WrittenLaws
+pub mod Unique

@@ -1,0 +1,27 @@
+-- `writer::put_early` meets its contract: each list begins where the one before ends.
+-- Assumes nothing.
+use mathlib.Core.Path.{ap, ap₂, _∙_}
+use Rattle.writer.specs.Writing.{withList, listEnd}
+use borrow.Author.Needs.{needs}
+use Rattle.writer.proofs.put_early.Statement.{statement}
+use Rattle.writer.proofs.put_early.Tie as tie
+
+put-section-requires : tie.Need-put-section-requires
+put-section-requires c κs = search needs
+
+put-section-requires-2 : tie.Need-put-section-requires-2
+put-section-requires-2 c κs = search needs
+
+same-length : tie.Need-same-length
+same-length c = search needs
+
+returns : tie.Need-returns
+returns c =
+    let vls = c .before .before .before .before .before .before .before .before .before .before .before .args .vls .now in
+    let first = c .before .before .before .before .before .before .put-section .ensures in
+    let second = c .before .before .put-section2 .ensures in
+    (second .0 ∙ ap (listEnd vls 2) (first .0), second .1 ∙ ap₂ (withList vls 2) (first .0) (first .1))
+
+pub put-early-spec : {M : Type 1} → statement M
+put-early-spec =
+    tie.close (tie.spec put-section-requires put-section-requires-2 same-length returns)

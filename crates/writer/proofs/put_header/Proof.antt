@@ -1,0 +1,47 @@
+-- `writer::put_header` meets its contract: the row is stored and put where there is room for it.
+-- Assumes nothing.
+use native.Mathlib.Omega.{arith}
+use Rattle.table.specs.Write.{headerFor}
+use Rattle.writer.specs.Writing.{lists}
+use Rattle.writer.proofs.PutLaws.{row-put}
+use borrow.Author.Needs.{needs}
+use Rattle.writer.proofs.put_header.Statement.{statement}
+use Rattle.writer.proofs.put_header.Tie as tie
+
+header-row-requires : tie.Need-header-row-requires
+header-row-requires c κs = search needs
+
+converted-row-requires : tie.Need-converted-row-requires
+converted-row-requires c κs = search needs
+
+put-row-requires : tie.Need-put-row-requires
+put-row-requires c κs = search needs
+
+bytes-in-requires : tie.Need-bytes-in-requires
+bytes-in-requires c κs = search needs
+
+same-length : tie.Need-same-length
+same-length c = search needs
+
+returns : tie.Need-returns
+returns c =
+    let s = c .before .before .before .before .before .before .before .before .before .before .before .before .before .before in
+    let a = s .args in
+    let ls = lists (a .delays .now) (a .systems .now) (a .vls .now) (a .streams .now) (a .ports .now) (a .hops .now) in (
+      c .bytes-in .ensures,
+      row-put (headerFor ls) 0 0 0 (a .out .now) _ _ _ (omega arith) (s .pre .1)
+          (c .before .before .before .before .before .before .header-row .ensures)
+          (c .before .before .before .before .before .converted-row .ensures)
+          (c .before .before .before .put-row .ensures),
+    )
+
+pub put-header-spec : {M : Type 1} → statement M
+put-header-spec =
+    tie.close
+    (tie.spec
+    header-row-requires
+    converted-row-requires
+    put-row-requires
+    bytes-in-requires
+    same-length
+    returns)

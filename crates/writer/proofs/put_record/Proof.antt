@@ -1,0 +1,45 @@
+-- `writer::put_record` meets its contract: the row is stored and put where there is room for it.
+-- Assumes nothing.
+use mathlib.Core.Path.{refl}
+use Prim.Native.Nat.{_*_}
+use Rattle.writer.specs.Writing.{listRow, listStored}
+use Rattle.writer.proofs.PutLaws.{row-put}
+use borrow.Author.Needs.{needs}
+use Rattle.writer.proofs.put_record.Statement.{statement}
+use Rattle.writer.proofs.put_record.Tie as tie
+
+list-row-requires : tie.Need-list-row-requires
+list-row-requires c κs = search needs
+
+converted-row-requires : tie.Need-converted-row-requires
+converted-row-requires c κs = search needs
+
+mul-put-row : tie.Need-mul-put-row
+mul-put-row c = search needs
+
+put-row-requires : tie.Need-put-row-requires
+put-row-requires c κs = search needs
+
+same-length : tie.Need-same-length
+same-length c = search needs
+
+returns : tie.Need-returns
+unfolding listStored
+returns c =
+    let s = c .before .before .before .before .before .before .before .before in
+    let a = s .args in
+    row-put (listRow (a .list .now) (a .section) (a .i)) (a .section) (a .at) (8 * a .at) (a .out .now) _ _ _ refl (s .pre .1)
+    (c .before .before .before .before .before .list-row .ensures)
+    (c .before .before .before .before .converted-row .ensures)
+    (c .before .before .put-row .ensures)
+
+pub put-record-spec : {M : Type 1} → statement M
+put-record-spec =
+    tie.close
+    (tie.spec
+    list-row-requires
+    converted-row-requires
+    mul-put-row
+    put-row-requires
+    same-length
+    returns)

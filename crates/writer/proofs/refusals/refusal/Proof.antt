@@ -1,0 +1,59 @@
+-- `writer::refusals::refusal` meets its contract: 2 where it refuses, and else the first of 4 and 11 that does.
+-- Assumes nothing.
+use mathlib.Core.Path.{_≡_, _∙_}
+use native.Mathlib.Omega.{arith}
+use Rattle.table.specs.Write.{Lists, listFor, recordsIn, tableSize}
+use Rattle.writer.specs.Writing.{lists}
+use Rattle.writer.proofs.RefusalLaws.{answer-two, answer-later}
+use borrow.Author.Needs.{needs}
+use Rattle.writer.proofs.refusals.refusal.Statement.{statement}
+use Rattle.writer.proofs.refusals.refusal.Tie as tie
+
+abbrev ls : tie.Start → Lists
+ls s = lists (s .args .delays .now) (s .args .systems .now) (s .args .vls .now) (s .args .streams .now) (s .args .ports .now) (s .args .hops .now)
+
+-- the size does not go by the delays
+sized : (c : tie.After-table-bytes) → c .table-bytes .result ≡ tableSize (ls (c .before .before .before .before .before .before .before .before .before .before))
+unfolding tableSize recordsIn listFor
+sized c = c .table-bytes .ensures
+
+header-answer-requires : tie.Need-header-answer-requires
+header-answer-requires c κs = search needs
+
+returns : tie.Need-returns
+returns c = answer-two (ls (c .before .before .before .before .before .before .before .before)) (c .before .before .before .before .before .before .before .before .args .room) _ (c .before .header-answer .ensures) (omega arith)
+
+records-answer-requires : tie.Need-records-answer-requires
+records-answer-requires c κs = search needs
+
+table-bytes-requires : tie.Need-table-bytes-requires
+table-bytes-requires c κs = search needs
+
+room-answer-requires : tie.Need-room-answer-requires
+room-answer-requires c κs = search needs
+
+first-of-requires : tie.Need-first-of-requires
+first-of-requires c κs = search needs
+
+returns-2 : tie.Need-returns-2
+returns-2 c =
+    let s = c .before .before .before .before .before .before .before .before .before .before .before .before in
+    c .first-of .ensures
+    ∙ answer-later (ls s) (s .args .room) (c .before .before .table-bytes .result) (c .before .before .before .before .before .header-answer .result) (c .before .before .before .records-answer .result) (c .before .room-answer .result)
+    (c .before .before .before .before .before .header-answer .ensures)
+    (omega arith)
+    (c .before .before .before .records-answer .ensures)
+    (sized (c .before .before))
+    (c .before .room-answer .ensures)
+
+pub refusal-spec : {M : Type 1} → statement M
+refusal-spec =
+    tie.close
+    (tie.spec
+    header-answer-requires
+    returns
+    records-answer-requires
+    table-bytes-requires
+    room-answer-requires
+    first-of-requires
+    returns-2)

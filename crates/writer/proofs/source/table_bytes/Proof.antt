@@ -1,0 +1,70 @@
+-- `writer::source::table_bytes` meets its contract: each section takes no more than twice its numbers, so all can be counted.
+-- Assumes nothing.
+use native.Mathlib.Omega.{arith}
+use Rattle.layout.proofs.LayoutLaws.{size-most}
+use Rattle.table.specs.Write.{listFor, recordsIn, tableSize}
+use borrow.Author.Needs.{needs}
+use Rattle.writer.proofs.source.table_bytes.Statement.{statement}
+use Rattle.writer.proofs.source.table_bytes.Tie as tie
+
+bytes-in-requires : tie.Need-bytes-in-requires
+bytes-in-requires c κs = search needs
+
+section-bytes-requires : tie.Need-section-bytes-requires
+section-bytes-requires c κs = search needs
+
+add-result : tie.Need-add-result
+add-result c = omega (arith, size-most 0)
+
+section-bytes-requires-2 : tie.Need-section-bytes-requires-2
+section-bytes-requires-2 c κs = search needs
+
+add-result-2 : tie.Need-add-result-2
+add-result-2 c = omega (arith, size-most 0)
+
+section-bytes-requires-3 : tie.Need-section-bytes-requires-3
+section-bytes-requires-3 c κs = search needs
+
+add-result-3 : tie.Need-add-result-3
+add-result-3 c = omega (arith, size-most 0)
+
+section-bytes-requires-4 : tie.Need-section-bytes-requires-4
+section-bytes-requires-4 c κs = search needs
+
+add-result-4 : tie.Need-add-result-4
+add-result-4 c = omega (arith, size-most 0)
+
+section-bytes-requires-5 : tie.Need-section-bytes-requires-5
+section-bytes-requires-5 c κs = search needs
+
+add-result-5 : tie.Need-add-result-5
+add-result-5 c = omega (arith, size-most 0)
+
+returns : tie.Need-returns
+unfolding tableSize recordsIn listFor
+returns c =
+    rw (
+      c .before .before .before .before .before .bytes-in .ensures,
+      c .before .before .before .before .section-bytes .ensures .0,
+      c .before .before .before .section-bytes2 .ensures .0,
+      c .before .before .section-bytes3 .ensures .0,
+      c .before .section-bytes4 .ensures .0,
+      c .section-bytes5 .ensures .0,
+    )
+
+pub table-bytes-spec : {M : Type 1} → statement M
+table-bytes-spec =
+    tie.close
+    (tie.spec
+    bytes-in-requires
+    section-bytes-requires
+    add-result
+    section-bytes-requires-2
+    add-result-2
+    section-bytes-requires-3
+    add-result-3
+    section-bytes-requires-4
+    add-result-4
+    section-bytes-requires-5
+    add-result-5
+    returns)

@@ -1,0 +1,141 @@
+// The writer: cleared bytes, and on acceptance the header and the records of each list, one after the other.
+// `layout` turns a record to stored numbers and puts it into the bytes. What it promises is `Writes` of crate `table`.
+mod refusals;
+mod source;
+
+use crate::refusals::refusal;
+use crate::source::header_row;
+use crate::source::list_row;
+use crate::source::records_in;
+use crate::source::table_bytes;
+use layout::Way;
+use table::Written;
+ghost use mathlib.Core.Path.{_≡_};
+ghost use Prim.Native.Nat.{_+_, _*_};
+ghost use lib.ListN.{length, replicate};
+ghost use Rattle.bits.specs.Rows.{putAll, putRows};
+ghost use Rattle.layout.specs.declared.Way.the-variants.{Writing};
+ghost use Rattle.layout.specs.Layout.{layout, widths, size};
+ghost use Rattle.layout.specs.Rows.{converted};
+ghost use Rattle.table.specs.Write.{headerFor, packed, Writes};
+ghost use Rattle.writer.specs.Writing.{lists, countIn, listStored, listRows, HasRecord, HasRoom, Behind, earlyEnd, earlyPut, lateEnd, latePut, Fillable};
+
+// Makes every byte 0.
+fn clear(out: &mut [u8])
+    ensures { λ _. ⌜ now (out .exit) ≡ replicate (length (now (out .entry))) 0 ⌝ }
+{
+    let n = out.len();
+    let mut k = 0;
+    while k < n {
+        out[k] = 0;
+        k += 1;
+    }
+}
+
+// Puts record i of a list where there is room for one record, from byte `at` on.
+fn put_record(list: &[u64], section: usize, i: usize, at: usize, out: &mut [u8])
+    requires { ⌜ HasRecord (now list) section i × HasRoom (now out) section at 1 ⌝ }
+    ensures { λ _. ⌜ now (out .exit) ≡ putAll (now (out .entry)) (8 * at) (widths section) (listStored (now (list .entry)) section i) ⌝ }
+{
+    let raw = layout::converted_row(Way::Writing, section, list_row(list, section, i));
+    layout::put_row(out, 8 * at, section, raw);
+}
+
+// Puts the records of a list from byte `at` on, and says where they end.
+fn put_section(list: &[u64], section: usize, at: usize, out: &mut [u8]) -> usize
+    requires { ⌜ HasRoom (now out) section at (countIn (now list) section) ⌝ }
+    ensures { λ r. ⌜ (r ≡ at + countIn (now (list .entry)) section * size section) × (now (out .exit) ≡ putRows (now (out .entry)) (8 * at) (widths section) (listRows (now (list .entry)) section (countIn (now (list .entry)) section))) ⌝ }
+{
+    let n = records_in(list, section);
+    let size = layout::bytes_in(section);
+    let mut i = 0;
+    while i < n {
+        put_record(list, section, i, at + i * size, out);
+        i += 1;
+    }
+    at + n * size
+}
+
+// Puts the header, and says where it ends.
+fn put_header(
+    delays: &[u64],
+    systems: &[u64],
+    vls: &[u64],
+    streams: &[u64],
+    ports: &[u64],
+    hops: &[u64],
+    out: &mut [u8],
+) -> usize
+    requires { ⌜ (length (now delays) ≡ 4) × HasRoom (now out) 0 0 1 ⌝ }
+    ensures { λ r. ⌜ (r ≡ size 0) × (now (out .exit) ≡ putAll (now (out .entry)) 0 (widths 0) (converted Writing (layout 0) (headerFor (lists (now (delays .entry)) (now (systems .entry)) (now (vls .entry)) (now (streams .entry)) (now (ports .entry)) (now (hops .entry)))))) ⌝ }
+{
+    let row = header_row(delays, systems, vls, streams, ports, hops);
+    let raw = layout::converted_row(Way::Writing, 0, row);
+    layout::put_row(out, 0, 0, raw);
+    layout::bytes_in(0)
+}
+
+// Puts the end systems and the VLs from byte `at` on, and says where they end.
+fn put_early(systems: &[u64], vls: &[u64], at: usize, out: &mut [u8]) -> usize
+    requires { ⌜ Behind (now out) (earlyEnd (now systems) (now vls) at) ⌝ }
+    ensures { λ r. ⌜ (r ≡ earlyEnd (now (systems .entry)) (now (vls .entry)) at) × (now (out .exit) ≡ earlyPut (now (systems .entry)) (now (vls .entry)) at (now (out .entry))) ⌝ }
+{
+    let next = put_section(systems, 1, at, out);
+    put_section(vls, 2, next, out)
+}
+
+// Puts the streams, the ports and the hops from byte `at` on.
+fn put_late(streams: &[u64], ports: &[u64], hops: &[u64], at: usize, out: &mut [u8])
+    requires { ⌜ Behind (now out) (lateEnd (now streams) (now ports) (now hops) at) ⌝ }
+    ensures { λ _. ⌜ now (out .exit) ≡ latePut (now (streams .entry)) (now (ports .entry)) (now (hops .entry)) at (now (out .entry)) ⌝ }
+{
+    let next = put_section(streams, 3, at, out);
+    let last = put_section(ports, 4, next, out);
+    put_section(hops, 5, last, out);
+}
+
+// Puts the whole table into cleared bytes, as many as it takes.
+fn fill(
+    delays: &[u64],
+    systems: &[u64],
+    vls: &[u64],
+    streams: &[u64],
+    ports: &[u64],
+    hops: &[u64],
+    out: &mut [u8],
+)
+    requires { ⌜ Fillable (lists (now delays) (now systems) (now vls) (now streams) (now ports) (now hops)) (now out) ⌝ }
+    ensures { λ _. ⌜ now (out .exit) ≡ packed (lists (now (delays .entry)) (now (systems .entry)) (now (vls .entry)) (now (streams .entry)) (now (ports .entry)) (now (hops .entry))) ⌝ }
+{
+    let a = put_header(delays, systems, vls, streams, ports, hops, out);
+    let b = put_early(systems, vls, a, out);
+    put_late(streams, ports, hops, b, out);
+}
+
+pub fn write(
+    delays: &[u64],
+    systems: &[u64],
+    vls: &[u64],
+    streams: &[u64],
+    ports: &[u64],
+    hops: &[u64],
+    out: &mut [u8],
+) -> Written
+    ensures { λ r. ⌜ Writes (record { delays = now (delays .entry); systems = now (systems .entry); vls = now (vls .entry); streams = now (streams .entry); ports = now (ports .entry); hops = now (hops .entry) }) (length (now (out .entry))) r (now (out .exit)) ⌝ }
+{
+    clear(out);
+    let answer = refusal(delays, systems, vls, streams, ports, hops, out.len());
+    let number = answer.number;
+    if number == 0 {
+        let n = table_bytes(systems, vls, streams, ports, hops);
+        fill(delays, systems, vls, streams, ports, hops, &mut out[..n]);
+        return Written {
+            answer: answer,
+            length: n,
+        };
+    }
+    Written {
+        answer: answer,
+        length: 0,
+    }
+}

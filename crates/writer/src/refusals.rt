@@ -1,0 +1,198 @@
+// The writer's answers 2, 4 and 11, in that order: the first that refuses.
+// Each list has its own answer, that to its first bad record; `layout` tests the record.
+use crate::source::header_row;
+use crate::source::list_row;
+use crate::source::records_in;
+use crate::source::table_bytes;
+use layout::Fault;
+use layout::Way;
+use table::Answer;
+ghost use mathlib.Core.Path.{_≡_};
+ghost use Prim.Native.Nat.{_%_, _<_};
+ghost use mathlib.Core.List.{[]};
+ghost use lib.Dec.{eqb};
+ghost use lib.ListN.{length};
+ghost use Rattle.layout.specs.Rows.{listed, faultOf};
+ghost use Rattle.table.specs.Answers.{accepted};
+ghost use Rattle.table.specs.Write.{whole, write2, writeAnswer};
+ghost use Rattle.writer.specs.Writing.{lists, HasRecord, given, firstOf, recordAnswer, listAnswer, headerFault, roomAnswer};
+
+fn acceptance() -> Answer
+    ensures { λ r. ⌜ r ≡ accepted ⌝ }
+{
+    Answer {
+        number: 0,
+        section: 0,
+        row: 0,
+        test: 0,
+    }
+}
+
+// The answer to record i of a list.
+fn record_answer(list: &[u64], section: usize, i: usize) -> Answer
+    requires { ⌜ HasRecord (now list) section i ⌝ }
+    ensures { λ r. ⌜ r ≡ recordAnswer (now (list .entry)) section i ⌝ }
+{
+    match layout::fault_of(Way::Writing, section, list_row(list, section, i)) {
+        Fault::Test(test) => Answer {
+            number: 4,
+            section: section as u64,
+            row: i as u64,
+            test: test,
+        },
+        Fault::Nothing => acceptance(),
+    }
+}
+
+// The answer to a list: that to the first record that is bad.
+fn list_answer(list: &[u64], section: usize) -> Answer
+    requires { ⌜ section < 6 ⌝ }
+    ensures { λ r. ⌜ r ≡ listAnswer (now (list .entry)) section ⌝ }
+{
+    let n = records_in(list, section);
+    let mut i = 0;
+    while i < n {
+        let a = record_answer(list, section, i);
+        let number = a.number;
+        if number != 0 {
+            return a;
+        }
+        i += 1;
+    }
+    acceptance()
+}
+
+fn first_of(a: Answer, b: Answer) -> Answer
+    ensures { λ r. ⌜ r ≡ firstOf a b ⌝ }
+{
+    let number = a.number;
+    if number == 0 {
+        return b;
+    }
+    a
+}
+
+// 4: the first bad record of the lowest section.
+fn records_answer(
+    systems: &[u64],
+    vls: &[u64],
+    streams: &[u64],
+    ports: &[u64],
+    hops: &[u64],
+) -> Answer
+    ensures { λ r. ⌜ r ≡ firstOf (listAnswer (now (systems .entry)) 1) (firstOf (listAnswer (now (vls .entry)) 2) (firstOf (listAnswer (now (streams .entry)) 3) (firstOf (listAnswer (now (ports .entry)) 4) (listAnswer (now (hops .entry)) 5)))) ⌝ }
+{
+    first_of(
+        list_answer(systems, 1),
+        first_of(
+            list_answer(vls, 2),
+            first_of(
+                list_answer(streams, 3),
+                first_of(list_answer(ports, 4), list_answer(hops, 5)),
+            ),
+        ),
+    )
+}
+
+// Whether a list is a whole number of records.
+fn is_whole(list: &[u64], section: usize) -> bool
+    requires { ⌜ section < 6 ⌝ }
+    ensures { λ r. ⌜ r ≡ eqb (length (now (list .entry)) % listed section) 0 ⌝ }
+{
+    list.len() % layout::numbers_in(section) == 0
+}
+
+// Whether every list is; each end system is one number.
+fn all_whole(delays: &[u64], vls: &[u64], streams: &[u64], ports: &[u64], hops: &[u64]) -> bool
+    ensures { λ r. ⌜ r ≡ whole (lists (now (delays .entry)) [] (now (vls .entry)) (now (streams .entry)) (now (ports .entry)) (now (hops .entry))) ⌝ }
+{
+    if delays.len() != 4 {
+        return false;
+    }
+    if !is_whole(vls, 2) {
+        return false;
+    }
+    if !is_whole(streams, 3) {
+        return false;
+    }
+    if !is_whole(ports, 4) {
+        return false;
+    }
+    is_whole(hops, 5)
+}
+
+fn header_fault(f: Fault) -> Answer
+    ensures { λ r. ⌜ r ≡ headerFault (faultOf f) ⌝ }
+{
+    match f {
+        Fault::Test(test) => Answer {
+            number: 2,
+            section: 0,
+            row: 0,
+            test: test,
+        },
+        Fault::Nothing => acceptance(),
+    }
+}
+
+// 2: a list that is no whole number of records, a count or a delay out of range.
+fn header_answer(
+    delays: &[u64],
+    systems: &[u64],
+    vls: &[u64],
+    streams: &[u64],
+    ports: &[u64],
+    hops: &[u64],
+) -> Answer
+    ensures { λ r. ⌜ r ≡ given (write2 (lists (now (delays .entry)) (now (systems .entry)) (now (vls .entry)) (now (streams .entry)) (now (ports .entry)) (now (hops .entry)))) ⌝ }
+{
+    if all_whole(delays, vls, streams, ports, hops) {
+        let row = header_row(delays, systems, vls, streams, ports, hops);
+        return header_fault(layout::fault_of(Way::Writing, 0, row));
+    }
+    Answer {
+        number: 2,
+        section: 0,
+        row: 0,
+        test: 0,
+    }
+}
+
+// 11: the lent bytes are too few.
+fn room_answer(bytes: usize, room: usize) -> Answer
+    ensures { λ r. ⌜ r ≡ roomAnswer bytes room ⌝ }
+{
+    if bytes <= room {
+        return acceptance();
+    }
+    Answer {
+        number: 11,
+        section: 0,
+        row: 0,
+        test: 0,
+    }
+}
+
+// 2, 4 and 11, in that order.
+pub fn refusal(
+    delays: &[u64],
+    systems: &[u64],
+    vls: &[u64],
+    streams: &[u64],
+    ports: &[u64],
+    hops: &[u64],
+    room: usize,
+) -> Answer
+    ensures { λ r. ⌜ r ≡ writeAnswer (lists (now (delays .entry)) (now (systems .entry)) (now (vls .entry)) (now (streams .entry)) (now (ports .entry)) (now (hops .entry))) room ⌝ }
+{
+    let two = header_answer(delays, systems, vls, streams, ports, hops);
+    let number = two.number;
+    if number != 0 {
+        return two;
+    }
+    let four = records_answer(systems, vls, streams, ports, hops);
+    first_of(
+        four,
+        room_answer(table_bytes(systems, vls, streams, ports, hops), room),
+    )
+}
