@@ -2,13 +2,7 @@
 #ifndef STATIONS_H
 #define STATIONS_H
 
-#include <stdint.h>
-
-#define MOST_FLOWS 1024
-
-typedef struct {
-    uint64_t period, jitter, cost;
-} Flow;
+#include "search.h"
 
 /* Flows of one period. All of them bring one at tick 0. The second of flow j comes at tick (first + j * gap) mod period,
    or a whole period later where that is 0: so the jitter is what is left of the period then, and `rounds` periods more

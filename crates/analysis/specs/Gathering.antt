@@ -1,6 +1,6 @@
 -- The flows that are gathered for a queue or a port, and what the station said of them. Nothing here has to be believed.
 -- Assumes nothing.
-use Prim.Native.Nat.{ℕ, _≤_}
+use Prim.Native.Nat.{_≤_}
 use mathlib.Core.Bool.{not}
 use mathlib.Core.List.{List}
 use mathlib.Core.Path.{_≡_}

@@ -1,12 +1,11 @@
 -- What is read off a sheet: each record of the network, field by field, with the bounds that the arithmetic over it asks for. Nothing here has to be believed.
 -- Assumes nothing.
 use Prim.Native.Nat.{ℕ, _≤_, _<_}
-use mathlib.Core.Bool.{Bool}
-use mathlib.Core.Option.{Option, none, some}
+use mathlib.Core.Option.{none, some}
 use mathlib.Core.Path.{_≡_}
 use lib.ListN.{length}
 use Rattle.base.specs.Pick.{pick}
-use Rattle.network.specs.Network.{Network, systemAt, vlAt, streamAt, portAt, hopAt}
+use Rattle.network.specs.Network.{Network, vlAt, streamAt, portAt, hopAt}
 use Rattle.analysis.specs.declared.sheet.Delays.{Delays}
 use Rattle.analysis.specs.declared.sheet.Vl.{Vl}
 use Rattle.analysis.specs.declared.sheet.Stream.{Stream}

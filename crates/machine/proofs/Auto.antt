@@ -78,8 +78,8 @@ module _ (net : Network) (releases : ℕ → List Release) (send : ℕ → Messa
     enter = λ t p. subst (λ (s : State). List·Permᴰ (reaches net t (plain t) s p) (reaches net t (plain t) (auto t) p)) (sym (state-is t)) (Permᴰ·refl (reaches net t (plain t) (auto t) p));
     flight-least = λ t h f l k. plan .flight-least t h f l;
     flight-greatest = λ t h f l k. plan .flight-greatest t h f l;
-    receive-least = λ t h f k. plan .receive-least t h f;
-    receive-greatest = λ t h f k. plan .receive-greatest t h f;
+    receive-least = λ t h f l k. plan .receive-least t h f;
+    receive-greatest = λ t h f l k. plan .receive-greatest t h f;
   }
 
 pub runs : (net : Network) → Runs net

@@ -1,10 +1,12 @@
 -- Runs that are permitted in every tick, in the form that the lemmas use; and what is known of each message of such a run.
 -- Assumes nothing.
 use Prim.Native.Nat.{ℕ, _+_, _≤_, _<_}
+use mathlib.Core.Bool.{true}
 use mathlib.Core.List.{List·Memᴰ, List·Permᴰ}
 use mathlib.Core.Path.{_≡_, subst}
 use lib.ListN.{length}
 use Rattle.network.specs.Network.{Network, streamAt, portAt, hopAt}
+use Rattle.rows.specs.Rows.{leaf}
 use Rattle.station.specs.Station.{most}
 use Rattle.machine.specs.Sum.{span}
 use Rattle.machine.specs.Pool.{landed}
@@ -32,9 +34,9 @@ module _ (net : Network) where
         (t h : ℕ) (f : Frame) → h < length (net .hops) → List·Memᴰ f (setsOut net t (r .choice t) (state net r t) h)
         → r .choice t .flight h f ≤ portAt net (hopAt net h .port) .delayGreatest
     pub receive-least :
-        (t h : ℕ) (f : Frame) → List·Memᴰ f (leaves net t (r .choice t) (state net r t) h) → net .receiveLeast ≤ r .choice t .receive h f
+        (t h : ℕ) (f : Frame) → leaf net h ≡ true → List·Memᴰ f (leaves net t (r .choice t) (state net r t) h) → net .receiveLeast ≤ r .choice t .receive h f
     pub receive-greatest :
-        (t h : ℕ) (f : Frame) → List·Memᴰ f (leaves net t (r .choice t) (state net r t) h) → r .choice t .receive h f ≤ net .receiveGreatest
+        (t h : ℕ) (f : Frame) → leaf net h ≡ true → List·Memᴰ f (leaves net t (r .choice t) (state net r t) h) → r .choice t .receive h f ≤ net .receiveGreatest
 
   pub permitted : (r : Run) → Endless r → Permitted net r
   permitted r e n = record {

@@ -221,4 +221,4 @@ module _ (net : Network) (sound : Sound net) (r : Run) (per : Endless net r) (wi
       then hop-delay (port-of h) (arrive (port-of h)) h refl
       then delay-same (λ t. ap (λ (b : Bool). cond b (left net r h t) []) k) (λ t. done-is net r h t)
       (on-the-way (λ u. ch net r u .receive h) (λ u. cond (leaf net h) (left net r h u) []) (net .receiveLeast) (net .receiveGreatest)
-      (λ t f m. let i = subst (λ (b : Bool). List·Memᴰ f (cond b (left net r h t) [])) k m in (per .receive-least t h f i, per .receive-greatest t h f i)))
+      (λ t f m. let i = subst (λ (b : Bool). List·Memᴰ f (cond b (left net r h t) [])) k m in (per .receive-least t h f k i, per .receive-greatest t h f k i)))

@@ -130,10 +130,10 @@ module _ (net : Network) (sound : Sound net) (r : Run) (n : ℕ) (per : Permitte
         (λ t i. per .flight-least t h f i l) (λ t i k. le-refl (portAt net (hopAt net h .port) .delayLeast)) t;
     flight-greatest = λ t h f l. each (λ t ms c s. List·Memᴰ f (setsOut net t c s h) → c .flight h f ≤ portAt net (hopAt net h .port) .delayGreatest)
         (λ t i. per .flight-greatest t h f i l) (λ t i k. sound .port-delay (hopAt net h .port) (sound .references .hop-port h l)) t;
-    receive-least = λ t h f. each (λ t ms c s. List·Memᴰ f (leaves net t c s h) → net .receiveLeast ≤ c .receive h f)
-        (λ t i. per .receive-least t h f i) (λ t i k. le-refl (net .receiveLeast)) t;
-    receive-greatest = λ t h f. each (λ t ms c s. List·Memᴰ f (leaves net t c s h) → c .receive h f ≤ net .receiveGreatest)
-        (λ t i. per .receive-greatest t h f i) (λ t i k. sound .receive) t;
+    receive-least = λ t h f l. each (λ t ms c s. List·Memᴰ f (leaves net t c s h) → net .receiveLeast ≤ c .receive h f)
+        (λ t i. per .receive-least t h f i l) (λ t i k. le-refl (net .receiveLeast)) t;
+    receive-greatest = λ t h f l. each (λ t ms c s. List·Memᴰ f (leaves net t c s h) → c .receive h f ≤ net .receiveGreatest)
+        (λ t i. per .receive-greatest t h f i l) (λ t i k. sound .receive) t;
   }
 
   -- ---- in the ticks below n the two are one

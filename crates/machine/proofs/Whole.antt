@@ -48,7 +48,7 @@ whole = record {
 }
 
 references : References whole
-unfolding badReference References.rowsOf refFault vlTests streamTests hopTests namesSystem hasHop streamNamesVl namesSubLink hopNamesVl namesPort parentEarlier parentSameVl parentLowerPort ofParent noEarlierTwin twinOf notTooDeep routeLonger leastFrom isSome firstFailing
+unfolding badReference References.namingRows refFault vlTests streamTests hopTests namesSystem hasHop streamNamesVl namesSubLink hopNamesVl namesPort parentEarlier parentSameVl parentLowerPort ofParent noEarlierTwin twinOf notTooDeep routeLonger leastFrom isSome firstFailing
 references = references-exactly whole .1 (refl, refl, refl)
 
 sound : Sound whole

@@ -1,4 +1,4 @@
--- The tick machine of demand 3: what a network may do, tick by tick. A sentence in quotes is 01's. Lists are queues, their heads first; none is bounded and nothing is dropped.
+-- The tick machine of demand 3: what a network may do, tick by tick. A sentence in quotes is 01's, except where it is said to be the order's. Lists are queues, their heads first; none is bounded and nothing is dropped.
 -- Assumes nothing.
 use Prim.Native.Nat.{ℕ, zero, suc}
 use mathlib.Core.Bool.{true, cond}
@@ -122,7 +122,7 @@ module _ (net : Network) where
     receiving = λ h. later t (allReceiving t c s h);
   }
 
-  -- ---- runs: "a network that starts empty and runs tick by tick"
+  -- ---- runs: in the order's words, "a network that starts empty and runs tick by tick"
   abbrev pub start : Run → State
   start r = record {
     sending = [];

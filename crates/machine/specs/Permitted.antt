@@ -1,10 +1,13 @@
--- The runs that 01 permits: "releases as the table permits, hardware delays within their bounds". A run may stop at any tick, so this is asked of the ticks below one.
+-- The runs that are permitted, in the order's words "releases as the table permits, hardware delays within their bounds"; any other sentence in quotes is 01's. A run may stop at any tick, so this is asked of the ticks below one.
 -- Assumes nothing.
 use Prim.Native.Nat.{ℕ, _+_, _≤_, _<_}
+use mathlib.Core.Bool.{true}
 use mathlib.Core.List.{List, List·Memᴰ, List·Permᴰ}
+use mathlib.Core.Path.{_≡_}
 use lib.Dec.{eqb}
 use lib.ListN.{length}
 use Rattle.network.specs.Network.{Network, streamAt, portAt, hopAt}
+use Rattle.rows.specs.Rows.{leaf}
 use Rattle.station.specs.declared.Flow.{Flow}
 use Rattle.station.specs.Station.{most}
 use Rattle.machine.specs.Sum.{span, count}
@@ -44,11 +47,13 @@ module _ (net : Network) where
     pub flight-greatest :
         (t h : ℕ) (f : Frame) → t < n → h < length (net .hops) → List·Memᴰ f (setsOut net t (r .choice t) (state net r t) h)
         → r .choice t .flight h f ≤ portAt net (hopAt net h .port) .delayGreatest
-    -- the receive delay
+    -- "A hop that is nobody's parent leads to the receive delay."
     pub receive-least :
-        (t h : ℕ) (f : Frame) → t < n → List·Memᴰ f (leaves net t (r .choice t) (state net r t) h) → net .receiveLeast ≤ r .choice t .receive h f
+        (t h : ℕ) (f : Frame) → t < n → leaf net h ≡ true → List·Memᴰ f (leaves net t (r .choice t) (state net r t) h)
+        → net .receiveLeast ≤ r .choice t .receive h f
     pub receive-greatest :
-        (t h : ℕ) (f : Frame) → t < n → List·Memᴰ f (leaves net t (r .choice t) (state net r t) h) → r .choice t .receive h f ≤ net .receiveGreatest
+        (t h : ℕ) (f : Frame) → t < n → leaf net h ≡ true → List·Memᴰ f (leaves net t (r .choice t) (state net r t) h)
+        → r .choice t .receive h f ≤ net .receiveGreatest
 
   -- permitted however long it goes on
   abbrev pub Permitted : Run → Type 0

@@ -13,7 +13,7 @@ use lib.ListN.{length}
 use Rattle.base.proofs.LeastLaws.{least-none, none-was}
 use Rattle.base.proofs.TestLaws.{no-row, no-row-was, one-more-passes, one-more-passed, first-of-no-tests}
 use Rattle.network.specs.Network.{Network, hopAt}
-use Rattle.network.specs.References.{namesSystem, hasHop, streamNamesVl, namesSubLink, hopNamesVl, namesPort, parentEarlier, parentSameVl, parentLowerPort, noEarlierTwin, notTooDeep, vlTests, streamTests, hopTests, refFault, rowsOf, badReference, oneSample, badSample, References, References-exactly, SamplesFit, Samples-exactly}
+use Rattle.network.specs.References.{namesSystem, hasHop, streamNamesVl, namesSubLink, hopNamesVl, namesPort, parentEarlier, parentSameVl, parentLowerPort, noEarlierTwin, notTooDeep, vlTests, streamTests, hopTests, refFault, namingRows, badReference, oneSample, badSample, References, References-exactly, SamplesFit, Samples-exactly}
 use Rattle.network.proofs.ReferenceTests.{names-system, names-system-was, has-hop, has-hop-was, stream-names-vl, stream-names-vl-was, names-sub-link, names-sub-link-was, hop-names-vl, hop-names-vl-was, names-port, names-port-was, parent-is-earlier, parent-was-earlier, parent-has-vl, parent-had-vl, parent-is-lower, parent-was-lower, no-twin-before, no-twin-was-before, not-too-deep, not-too-deep-was, one-sample, one-sample-was}
 
 -- ---- rows: no test of a row fails
@@ -71,17 +71,17 @@ module _ (net : Network) (i : ℕ) where
       record { vl = a .0; port = b .0; earlier = c .0; same-vl = d .0; lower-port = f .0; no-twin = g .0; not-deep = h .0 }
 
 -- ---- sections: no row has a failing test
-pub no-bad-row : (net : Network) (s : ℕ) → ((i : ℕ) → i < rowsOf net s → refFault net s i ≡ none) → badReference net s ≡ none
+pub no-bad-row : (net : Network) (s : ℕ) → ((i : ℕ) → i < namingRows net s → refFault net s i ≡ none) → badReference net s ≡ none
 unfolding badReference
-no-bad-row net s all = no-row (refFault net s) 0 (rowsOf net s) (λ i a b. all i (omega arith))
+no-bad-row net s all = no-row (refFault net s) 0 (namingRows net s) (λ i a b. all i (omega arith))
 
-pub no-bad-row-was : (net : Network) (s i : ℕ) → badReference net s ≡ none → i < rowsOf net s → refFault net s i ≡ none
+pub no-bad-row-was : (net : Network) (s i : ℕ) → badReference net s ≡ none → i < namingRows net s → refFault net s i ≡ none
 unfolding badReference
-no-bad-row-was net s i e h = no-row-was (refFault net s) 0 (rowsOf net s) e i (omega arith) (omega arith)
+no-bad-row-was net s i e h = no-row-was (refFault net s) 0 (namingRows net s) e i (omega arith) (omega arith)
 
 -- ---- the plain facts from the three sections that name something
 pub references-hold : (net : Network) → badReference net 2 ≡ none → badReference net 3 ≡ none → badReference net 5 ≡ none → References net
-unfolding rowsOf
+unfolding namingRows
 references-hold net e2 e3 e5 =
     let vls : (v : ℕ) → v < length (net .vls) → (namesSystem net v ≡ true) × (hasHop net v ≡ true) = λ v l. vl-row-was net v (no-bad-row-was net 2 v e2 l) in
     let streams : (s : ℕ) → s < length (net .streams) → (streamNamesVl net s ≡ true) × (namesSubLink net s ≡ true) = λ s l. stream-row-was net s (no-bad-row-was net 3 s e3 l) in
@@ -103,15 +103,15 @@ references-hold net e2 e3 e5 =
 -- ---- and from the plain facts no section has a bad reference
 module _ (net : Network) (refs : References net) where
   vls-good : badReference net 2 ≡ none
-  unfolding rowsOf
+  unfolding namingRows
   vls-good = no-bad-row net 2 (λ v l. vl-row net v (names-system net v (refs .vl-system v l)) (has-hop net v (refs .vl-hop v l)))
 
   streams-good : badReference net 3 ≡ none
-  unfolding rowsOf
+  unfolding namingRows
   streams-good = no-bad-row net 3 (λ s l. stream-row net s (stream-names-vl net s (refs .stream-vl s l)) (names-sub-link net s (refs .stream-sub-link s l)))
 
   hops-good : badReference net 5 ≡ none
-  unfolding rowsOf
+  unfolding namingRows
   hops-good = no-bad-row net 5
       (λ h l. hop-row net h
       record {
@@ -125,7 +125,7 @@ module _ (net : Network) (refs : References net) where
       })
 
   pub no-bad-reference : (s : ℕ) → badReference net s ≡ none
-  unfolding rowsOf
+  unfolding namingRows
   no-bad-reference zero = no-bad-row net 0 (λ i l. absurd (omega arith))
   no-bad-reference (suc zero) = no-bad-row net 1 (λ i l. absurd (omega arith))
   no-bad-reference (suc (suc zero)) = vls-good

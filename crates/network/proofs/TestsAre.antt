@@ -15,7 +15,7 @@ use Rattle.base.proofs.LeastLaws.{least-none, least-exists}
 use Rattle.base.proofs.TestLaws.{some-is, none-is, first-fails, first-passes}
 use Rattle.frame.specs.Packets.{packets}
 use Rattle.network.specs.Network.{Network, vlAt, streamAt, hopAt}
-use Rattle.network.specs.References.{namesSystem, hasHop, streamNamesVl, namesSubLink, hopNamesVl, namesPort, ofParent, parentEarlier, parentSameVl, parentLowerPort, twinOf, noEarlierTwin, routeLonger, notTooDeep, vlTests, streamTests, hopTests, refFault, rowsOf, oneSample}
+use Rattle.network.specs.References.{namesSystem, hasHop, streamNamesVl, namesSubLink, hopNamesVl, namesPort, ofParent, parentEarlier, parentSameVl, parentLowerPort, twinOf, noEarlierTwin, routeLonger, notTooDeep, vlTests, streamTests, hopTests, refFault, namingRows, oneSample}
 
 module _ (net : Network) (i : ℕ) where
   -- ---- the comparisons
@@ -167,6 +167,6 @@ module _ (net : Network) (i : ℕ) where
               (fails-later _ _ _ earlier (fails-later _ _ _ same-vl (fails-later _ _ _ lower (fails-later _ _ _ twin (fails-here _ _ a))))))
 
 -- ---- the rows of a section that are tested
-pub rows-are : (net : Network) (s : ℕ) → rowsOf net s ≡ getD (0 ∷ 0 ∷ length (net .vls) ∷ length (net .streams) ∷ 0 ∷ length (net .hops) ∷ []) s 0
-unfolding rowsOf
+pub rows-are : (net : Network) (s : ℕ) → namingRows net s ≡ getD (0 ∷ 0 ∷ length (net .vls) ∷ length (net .streams) ∷ 0 ∷ length (net .hops) ∷ []) s 0
+unfolding namingRows
 rows-are net s = refl

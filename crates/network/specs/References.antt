@@ -12,7 +12,7 @@ use Rattle.base.specs.Least.{leastFrom}
 use Rattle.base.specs.Tabulate.{passing}
 use Rattle.base.specs.Tests.{isSome, firstFailing}
 use Rattle.frame.specs.Packets.{packets}
-use Rattle.network.specs.Network.{Network, Vl, Stream, Port, Hop, vlAt, streamAt, portAt, hopAt}
+use Rattle.network.specs.Network.{Network, vlAt, streamAt, hopAt}
 
 -- ---- VLs: "a VL names no end system, or has no hop"
 unfoldable pub namesSystem : Network → ℕ → Bool
@@ -80,12 +80,12 @@ unfoldable pub refFault : Network → ℕ → ℕ → Option ℕ
 refFault net section i =
     firstFailing (getD ([] ∷ [] ∷ vlTests net i ∷ streamTests net i ∷ [] ∷ hopTests net i ∷ []) section [])
 
-unfoldable pub rowsOf : Network → ℕ → ℕ
-rowsOf net section = getD (0 ∷ 0 ∷ length (net .vls) ∷ length (net .streams) ∷ 0 ∷ length (net .hops) ∷ []) section 0
+unfoldable pub namingRows : Network → ℕ → ℕ
+namingRows net section = getD (0 ∷ 0 ∷ length (net .vls) ∷ length (net .streams) ∷ 0 ∷ length (net .hops) ∷ []) section 0
 
 -- the first row of a section with a bad reference
 unfoldable pub badReference : Network → ℕ → Option ℕ
-badReference net section = leastFrom (λ i. isSome (refFault net section i)) 0 (rowsOf net section)
+badReference net section = leastFrom (λ i. isSome (refFault net section i)) 0 (namingRows net section)
 
 -- 6: "a sampling message needs more than one packet"
 unfoldable pub oneSample : Network → ℕ → Bool

@@ -9,7 +9,6 @@ use Rattle.network.specs.Network.{Network}
 use Rattle.network.specs.References.{References}
 use Rattle.table.specs.Sections.{lent}
 use Rattle.table.specs.Read.{networkIn}
-use Rattle.table.proofs.ReadLaws.{read-ranges, read-references}
 use Rattle.rows.specs.Rows.{queueOf, worst, best, rowsOf}
 use Rattle.analysis.specs.Analysis.{joined}
 use Rattle.machine.specs.Messages.{Message}
@@ -19,7 +18,7 @@ use Rattle.machine.specs.Demand3 as Machine
 use Rattle.machine.proofs.Demand3.{demand-3 as machines}
 use Rattle.order.specs.Demand3.{streamIn, hopIn, Holds, Demand-3}
 use Rattle.order.proofs.AcceptedLaws.{accepted-was}
-use Rattle.order.proofs.SoundLaws.{sound, busy}
+use Rattle.order.proofs.SoundLaws.{accepted-references, accepted-sound, accepted-busy}
 use Rattle.order.proofs.RowLaws.{row-at, row-for, row-of}
 use Rattle.order.proofs.Demand2.{demand-2}
 
@@ -55,7 +54,6 @@ pub demand-3 : Demand-3
 demand-3 bytes room r result a e =
     let net = networkIn bytes in
     let was = accepted-was bytes room (sym (a .answer-is) ∙ e) in
-    let refs = read-references bytes (was .reads) in
     let rows = demand-2 .figures bytes room r result a e in
-    let machine = machines net (sound net (read-ranges bytes (was .reads)) refs (was .no-late-system)) (busy net refs (was .no-endless-vl) (was .no-endless-port)) in
-    rw (rows .count) (holds net refs machine room result (rows .rows))
+    let machine = machines net (accepted-sound bytes room was) (accepted-busy bytes room was) in
+    rw (rows .count) (holds net (accepted-references bytes room was) machine room result (rows .rows))

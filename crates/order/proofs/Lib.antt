@@ -1,6 +1,8 @@
 pub mod AcceptedLaws
 pub mod SoundLaws
 pub mod RowLaws
+pub mod CutOffLaws
+pub mod AgainLaws
 pub mod Demand1
 pub mod Demand2
 pub mod Demand3

@@ -1,7 +1,8 @@
--- Ranges, good references and no late end system make a sound network; where 9 and 10 find nothing its busy lengths exist. Each from the plain facts, row by row.
+-- Ranges, good references and no late end system make a sound network; where 9 and 10 find nothing its busy lengths exist. Each from the plain facts, row by row; so an accepted table has both.
 -- Assumes nothing.
 use Prim.Native.Nat.{ℕ, _≤_, _<_}
 use mathlib.Core.Bool.{false, not}
+use mathlib.Core.List.{List}
 use mathlib.Core.Logic.{⊎-elim}
 use mathlib.Core.Option.{Option, none}
 use mathlib.Core.Path.{_≡_}
@@ -16,11 +17,14 @@ use Rattle.frame.proofs.TickLaws.{sends-in-time-was}
 use Rattle.network.specs.Network.{Network, systemAt, vlAt, streamAt, portAt, hopAt}
 use Rattle.network.specs.Ranges.{SpeedRange, Ranges}
 use Rattle.network.specs.References.{References}
+use Rattle.table.specs.Read.{networkIn}
+use Rattle.table.proofs.ReadLaws.{read-ranges, read-references}
 use Rattle.rows.specs.Links.{sendSum}
 use Rattle.rows.specs.Queues.{queueLength}
 use Rattle.rows.specs.Ports.{portLength, jitterOf}
 use Rattle.rows.specs.Refusals.{sendsLate, lateSystem, endlessSubLink, endlessVl, endless, endlessPort}
 use Rattle.machine.specs.Sound.{Sound, Has, Busy}
+use Rattle.order.proofs.AcceptedLaws.{Accepts}
 
 -- a byte takes a tick at least
 takes-time : (perByte : ℕ) → SpeedRange perByte → 0 < perByte
@@ -38,7 +42,7 @@ module _ (net : Network) where
       sends-in-time-was (sendSum net e)
       (not-false (sendsInTime (sendSum net e)) (none-was (sendsLate net) 0 (length (net .systems)) e none7 (omega arith) (omega arith)))
 
-  pub sound : Ranges net → References net → lateSystem net ≡ none → Sound net
+  sound : Ranges net → References net → lateSystem net ≡ none → Sound net
   sound ranges refs none7 = record {
     references = refs;
     send = ranges .send-least;
@@ -56,7 +60,7 @@ module _ (net : Network) where
   }
 
   -- ---- 9 and 10
-  pub busy : References net → endlessVl net ≡ none → endlessPort net ≡ none → Busy net
+  busy : References net → endlessVl net ≡ none → endlessPort net ≡ none → Busy net
   unfolding endlessVl endlessSubLink endlessPort endless
   busy refs none9 none10 = record {
     queue = λ s h.
@@ -70,3 +74,14 @@ module _ (net : Network) where
         has (portLength net (jitterOf net) p)
         (none-was (endless net) 0 (length (net .ports)) p none10 (omega arith) (omega (arith, refs .hop-port h l)));
   }
+
+-- ---- the network of an accepted table
+module _ (bytes : List ℕ) (room : ℕ) (was : Accepts bytes room) where
+  pub accepted-references : References (networkIn bytes)
+  accepted-references = read-references bytes (was .reads)
+
+  pub accepted-sound : Sound (networkIn bytes)
+  accepted-sound = sound (networkIn bytes) (read-ranges bytes (was .reads)) accepted-references (was .no-late-system)
+
+  pub accepted-busy : Busy (networkIn bytes)
+  accepted-busy = busy (networkIn bytes) accepted-references (was .no-endless-vl) (was .no-endless-port)

@@ -17,9 +17,14 @@ pub record AnalysisRefuses (bytes : List ℕ) (room : ℕ) (r : Analysed) (resul
   pub no-rows : 0 < r .answer .number → r .rows ≡ 0
   pub all-zero : 0 < r .answer .number → result ≡ replicate room 0
 
--- the unpacker, with six lent lists of n numbers: 1 to 4 and 11
+-- the unpacker, with six lent lists of n numbers: 1 to 4 and 11, and on a refusal no records and zeros
 pub record UnpackerRefuses (bytes : List ℕ) (n : Lengths) (r : Unpacked) (delays systems vls streams ports hops : List ℕ) : Type 0 where
   pub answer : r .answer ≡ unpackAnswer bytes n
+  pub no-systems : 0 < r .answer .number → r .systems ≡ 0
+  pub no-vls : 0 < r .answer .number → r .vls ≡ 0
+  pub no-streams : 0 < r .answer .number → r .streams ≡ 0
+  pub no-ports : 0 < r .answer .number → r .ports ≡ 0
+  pub no-hops : 0 < r .answer .number → r .hops ≡ 0
   pub delays-zero : 0 < r .answer .number → delays ≡ replicate (n .delays) 0
   pub systems-zero : 0 < r .answer .number → systems ≡ replicate (n .systems) 0
   pub vls-zero : 0 < r .answer .number → vls ≡ replicate (n .vls) 0
@@ -27,9 +32,10 @@ pub record UnpackerRefuses (bytes : List ℕ) (n : Lengths) (r : Unpacked) (dela
   pub ports-zero : 0 < r .answer .number → ports ≡ replicate (n .ports) 0
   pub hops-zero : 0 < r .answer .number → hops ≡ replicate (n .hops) 0
 
--- the writer, with `room` lent bytes: 2, 4 and 11
+-- the writer, with `room` lent bytes: 2, 4 and 11, and on a refusal no table and zeros
 pub record WriterRefuses (ls : Lists) (room : ℕ) (r : Written) (out : List ℕ) : Type 0 where
   pub answer : r .answer ≡ writeAnswer ls room
+  pub no-length : 0 < r .answer .number → r .length ≡ 0
   pub all-zero : 0 < r .answer .number → out ≡ replicate room 0
 
 pub record Demand-1 : Type 0 where

@@ -1,19 +1,29 @@
 -- The order, demand 2: "Each figure equals what 01 lays down .. number for number. Where refusals 1 to 8 do not apply, a load refusal is given exactly if no busy length within 01's limit exists. Fields written to a table read back the same, and an accepted table, unpacked and written again, gives the same bytes."
 -- Assumes nothing.
-use Prim.Native.Nat.{ℕ, _<_}
+use Prim.Native.Nat.{ℕ, _≤_, _<_}
 use mathlib.Core.List.{List}
 use mathlib.Core.Path.{_≡_}
-use lib.ListN.{length}
-use Rattle.network.specs.Network.{Network}
-use Rattle.network.specs.References.{References}
+use lib.ListN.{length, take}
+use Rattle.base.specs.Tests.{numberOr0}
+use Rattle.bits.specs.Bits.{Bytes}
+use Rattle.frame.specs.Frame.{protocolOverhead, leastLine, largestLine}
+use Rattle.frame.specs.Packets.{packets}
+use Rattle.network.specs.Network.{Network, vlAt, streamAt, portAt, hopAt}
+use Rattle.station.specs.Station.{figure}
+use Rattle.table.specs.declared.Unpacked.{Unpacked}
+use Rattle.table.specs.declared.Written.{Written}
 use Rattle.table.specs.Answers.{accepted}
 use Rattle.table.specs.Sections.{lent}
+use Rattle.table.specs.Unpack.{Lengths, Unpacks}
+use Rattle.table.specs.Write.{Lists, Writes}
 use Rattle.table.specs.Read.{networkIn}
-use Rattle.table.specs.RoundTrip.{Unpack-after-write, Write-after-unpack, Determined}
+use Rattle.table.specs.RoundTrip.{unpacked, Unpack-after-write, Write-after-unpack, Determined}
+use Rattle.rows.specs.Links.{hopLine}
+use Rattle.rows.specs.Queues.{queueFlows, queueLength}
 use Rattle.rows.specs.Ports.{Figures, figureOf, jitterOf}
-use Rattle.rows.specs.Rows.{rowsOf}
+use Rattle.rows.specs.Rows.{worst, best, rowsOf}
 use Rattle.analysis.specs.declared.Analysed.{Analysed}
-use Rattle.analysis.specs.Analysis.{joined, Analyses}
+use Rattle.analysis.specs.Analysis.{analysisAnswer, joined, Analyses}
 use Rattle.analysis.specs.Exact.{Exact-9, Exact-10, Exact-accepted, Exact-three}
 
 -- "Each figure equals what 01 lays down": the lent result holds 01's rows of the network that the bytes describe, and then zeros
@@ -27,16 +37,64 @@ pub record OneSolution (net : Network) : Type 0 where
   pub only-figure : (figureAt jitterAt : ℕ → ℕ) → Figures net figureAt jitterAt → (h : ℕ) → h < length (net .hops) → figureAt h ≡ figureOf net h
   pub only-jitter : (figureAt jitterAt : ℕ → ℕ) → Figures net figureAt jitterAt → (h : ℕ) → h < length (net .hops) → jitterAt h ≡ jitterOf net h
 
+-- 01's rules subtract, and the definitions' difference of natural numbers is cut off at 0: here it never is, so that each is the difference that 01 means
+pub record NothingCutOff (net : Network) : Type 0 where
+  -- "p = M / (Lmax − 47) rounded up", and the divisor is not 0
+  pub full-packet : (v : ℕ) → v < length (net .vls) → protocolOverhead < vlAt net v .lmax
+  -- "J raised by (greatest − least send delay)"
+  pub send-delay : net .sendLeast ≤ net .sendGreatest
+  -- "the station figure less one BAG"
+  pub queue :
+      (s : ℕ) → s < length (net .streams) → let v = streamAt net s .vl in let k = streamAt net s .subLink in
+      vlAt net v .gap ≤ figure (queueFlows net v k) (numberOr0 (queueLength net v k))
+  -- "(20 + Lmax − 84) × ticks per byte of the end system"
+  pub line : (v : ℕ) → v < length (net .vls) → leastLine ≤ largestLine (vlAt net v .lmax)
+  -- "switch delay greatest − least"
+  pub switch-delay : (p : ℕ) → p < length (net .ports) → portAt net p .delayLeast ≤ portAt net p .delayGreatest
+  -- "the parent's jitter + parent port's figure − 84 × its ticks per byte"
+  pub child-jitter : (g : ℕ) → g < length (net .hops) → hopLine net g ≤ figureOf net g
+  -- "(least packets − 1) × BAG"
+  pub least-packets : (s : ℕ) → s < length (net .streams) → 1 ≤ packets (streamAt net s .leastSize) (vlAt net (streamAt net s .vl) .lmax)
+  -- "jitter = the stream's jitter + worst − best", for every hop of the stream's VL
+  pub row-jitter : (s h : ℕ) → s < length (net .streams) → h < length (net .hops) → hopAt net h .vl ≡ streamAt net s .vl → best net s h ≤ worst net s h
+
+-- lent lists of n numbers hold these and then zeros
+pub record Hold (ls : Lists) (n : Lengths) (delays systems vls streams ports hops : List ℕ) : Type 0 where
+  pub delays-are : delays ≡ lent (n .delays) (ls .delays)
+  pub systems-are : systems ≡ lent (n .systems) (ls .systems)
+  pub vls-are : vls ≡ lent (n .vls) (ls .vls)
+  pub streams-are : streams ≡ lent (n .streams) (ls .streams)
+  pub ports-are : ports ≡ lent (n .ports) (ls .ports)
+  pub hops-are : hops ≡ lent (n .hops) (ls .hops)
+
+-- the writer accepted, and left these bytes
+pub record Gives (bytes : List ℕ) (w : Written) (out : List ℕ) : Type 0 where
+  pub answer : w .answer ≡ accepted
+  pub same-length : w .length ≡ length bytes
+  pub same-bytes : out ≡ bytes
+
 pub record Demand-2 : Type 0 where
   pub figures : (bytes : List ℕ) (room : ℕ) (r : Analysed) (result : List ℕ) → Analyses bytes room r result → r .answer ≡ accepted → RowsAre bytes room r result
-  pub one-solution : (net : Network) → References net → OneSolution net
+  pub one-solution : (bytes : List ℕ) (room : ℕ) → analysisAnswer bytes room ≡ accepted → OneSolution (networkIn bytes)
+  pub nothing-cut-off : (bytes : List ℕ) (room : ℕ) → analysisAnswer bytes room ≡ accepted → NothingCutOff (networkIn bytes)
   -- "Where refusals 1 to 8 do not apply, a load refusal is given exactly if no busy length within 01's limit exists": 9 at the first VL with such a sub-link, else 10 at the first such port, else the table is accepted, and nothing else is answered
   pub load-refusal-9 : Exact-9
   pub load-refusal-10 : Exact-10
   pub no-load-refusal : Exact-accepted
   pub nothing-else : Exact-three
-  -- "Fields written to a table read back the same"
+  -- "Fields written to a table read back the same": of the definitions, and of what the writer and then the unpacker leave
   pub unpack-after-write : Unpack-after-write
-  -- "an accepted table, unpacked and written again, gives the same bytes"
+  pub written-then-unpacked :
+      (ls : Lists) (room : ℕ) (w : Written) (out : List ℕ) → Writes ls room w out → w .answer ≡ accepted
+      → (n : Lengths) (u : Unpacked) (delays systems vls streams ports hops : List ℕ)
+      → Unpacks (take (w .length) out) n u delays systems vls streams ports hops → u .answer ≡ accepted
+      → Hold ls n delays systems vls streams ports hops
+  -- "an accepted table, unpacked and written again, gives the same bytes": likewise
   pub write-after-unpack : Write-after-unpack
+  pub unpacked-then-written :
+      (bytes : List ℕ) → Bytes bytes
+      → (n : Lengths) (u : Unpacked) (delays systems vls streams ports hops : List ℕ)
+      → Unpacks bytes n u delays systems vls streams ports hops → u .answer ≡ accepted
+      → (w : Written) (out : List ℕ) → Writes (unpacked bytes) (length bytes) w out
+      → Hold (unpacked bytes) n delays systems vls streams ports hops × Gives bytes w out
   pub determined : Determined

@@ -62,5 +62,6 @@ pub record Whole-case : Type 0 where
   -- demand 3 with their numbers
   pub stream-0 : Arrives (networkIn table) 0 0 19398 2043
   pub stream-1 : Arrives (networkIn table) 1 1 6898 2043
-  -- some permitted run makes the last packet of a message wait exactly 12,500 ticks
+  -- "for each stream": some permitted run makes the last packet of a message of stream 0 wait exactly 12,500 ticks, and of stream 1 none
   pub waits : Reaches (networkIn table) 0 12500
+  pub waits-1 : Reaches (networkIn table) 1 0

@@ -14,7 +14,7 @@ use Rattle.base.specs.Tests.{isSome, numberOr0}
 use Rattle.base.proofs.LeastLaws.{least-is, least-none}
 use Rattle.base.proofs.TestLaws.{none-is}
 use Rattle.network.specs.Network.{Network}
-use Rattle.network.specs.References.{refFault, rowsOf, badReference, oneSample, badSample}
+use Rattle.network.specs.References.{refFault, namingRows, badReference, oneSample, badSample}
 use Rattle.network.proofs.ReferenceTests.{stream-names-vl-was}
 use Rattle.network.proofs.ReferenceLaws.{stream-row-was, no-bad-row, no-bad-row-was}
 use Rattle.network.proofs.TestsAre.{rows-are}
@@ -27,7 +27,7 @@ use Rattle.reader.specs.Referring.{testedRows, refusalAt, rowAnswer, sec
 use Rattle.reader.proofs.ReferringLaws.{vls-long, streams-long, hops-long, vl-of-stream}
 
 -- ---- the rows that are tested
-pub rows-tested : (ls : Lists) (s : ℕ) → rowsOf (networkOf ls) s ≡ testedRows (ls .vls) (ls .streams) (ls .hops) s
+pub rows-tested : (ls : Lists) (s : ℕ) → namingRows (networkOf ls) s ≡ testedRows (ls .vls) (ls .streams) (ls .hops) s
 rows-tested ls s = rows-are (networkOf ls) s ∙ rw (vls-long ls, streams-long ls, hops-long ls)
 
 -- end systems and ports have none, nor has a section that does not exist
@@ -78,16 +78,16 @@ module _ (net : Network) (s i : ℕ) where
 
 -- ---- a section
 module _ (net : Network) (s : ℕ) where
-  pub section-bad : (i : ℕ) → i < rowsOf net s → ((k : ℕ) → k < i → refFault net s k ≡ none) → ltb 0 (rowAnswer net s i .number) ≡ true
+  pub section-bad : (i : ℕ) → i < namingRows net s → ((k : ℕ) → k < i → refFault net s k ≡ none) → ltb 0 (rowAnswer net s i .number) ≡ true
       → rowAnswer net s i ≡ sectionAnswer net s
   unfolding sectionAnswer badReference
   section-bad i h before e =
       let was = row-was-bad net s i e in
       let here : badReference net s ≡ some i =
-      least-is (λ k. isSome (refFault net s k)) 0 (rowsOf net s) i (omega arith) (omega arith) (was .0) (λ k a b. none-is (refFault net s k) (before k b)) in
+      least-is (λ k. isSome (refFault net s k)) 0 (namingRows net s) i (omega arith) (omega arith) (was .0) (λ k a b. none-is (refFault net s k) (before k b)) in
       was .1 ∙ rw (here, sectionAnswer)
 
-  pub section-good : ((k : ℕ) → k < rowsOf net s → refFault net s k ≡ none) → accepted ≡ sectionAnswer net s
+  pub section-good : ((k : ℕ) → k < namingRows net s → refFault net s k ≡ none) → accepted ≡ sectionAnswer net s
   unfolding sectionAnswer
   section-good all = rw (no-bad-row net s all, sectionAnswer)
 

@@ -1,8 +1,8 @@
 -- A frame on a link: the most and the least ticks that it takes on an end system's link and on a port's. Everything that belongs to a link stands here.
 -- Assumes nothing.
-use Prim.Native.Nat.{ℕ, zero, suc, _+_, _-_, _*_}
-use mathlib.Core.Bool.{Bool, _&&_, not}
-use mathlib.Core.List.{List, [], _∷_, map}
+use Prim.Native.Nat.{ℕ, _-_, _*_}
+use mathlib.Core.Bool.{_&&_, not}
+use mathlib.Core.List.{List, map}
 use lib.Dec.{eqb}
 use lib.ListN.{length}
 use Rattle.base.specs.Tabulate.{passing, total}

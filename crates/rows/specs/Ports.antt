@@ -1,12 +1,12 @@
 -- 01, Port: "one flow for each hop on it, T = BAG, C = (20 + Lmax) × ticks per byte of the port", and the jitters of hops, as equations on the figures and jitters of the hops.
 -- Assumes nothing.
-use Prim.Native.Nat.{ℕ, zero, suc, _+_, _-_, _*_, _<_}
-use mathlib.Core.List.{List, [], _∷_, map}
+use Prim.Native.Nat.{ℕ, zero, suc, _+_, _-_, _<_}
+use mathlib.Core.List.{List, map}
 use mathlib.Core.Option.{Option, none, some}
 use mathlib.Core.Path.{_≡_}
 use lib.ListN.{length}
 use Rattle.base.specs.Tests.{numberOr0}
-use Rattle.network.specs.Network.{Network, vlAt, portAt, hopAt}
+use Rattle.network.specs.Network.{Network, vlAt, hopAt}
 use Rattle.network.specs.References.{hopsOn}
 use Rattle.station.specs.declared.Flow.{Flow}
 use Rattle.station.specs.Station.{busyLength, figure}

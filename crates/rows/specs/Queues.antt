@@ -1,9 +1,9 @@
 -- 01, Queue figure of a sub-link with a stream: "flows are its streams, J raised by (greatest − least send delay), C = p × n × BAG where n is the VL's number of sub-links; the station figure less one BAG."
 -- Assumes nothing.
 use Prim.Native.Nat.{ℕ, _+_, _-_, _*_}
-use mathlib.Core.Bool.{Bool, _&&_}
-use mathlib.Core.List.{List, [], _∷_, map}
-use mathlib.Core.Option.{Option, none, some}
+use mathlib.Core.Bool.{_&&_}
+use mathlib.Core.List.{List, map}
+use mathlib.Core.Option.{Option}
 use lib.Dec.{eqb}
 use lib.ListN.{length}
 use Rattle.base.specs.Tabulate.{passing}

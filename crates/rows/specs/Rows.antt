@@ -1,7 +1,7 @@
 -- 01, Result rows: "For each stream in order, each hop of its VL that is nobody's parent, in order: stream, hop, queue, worst, best, jitter." Worst and best are each the sum of a list of parts.
 -- Assumes nothing.
 use Prim.Native.Nat.{ℕ, zero, suc, _+_, _-_, _*_}
-use mathlib.Core.Bool.{Bool, true, false, _&&_, not}
+use mathlib.Core.Bool.{Bool, false, _&&_, not}
 use mathlib.Core.List.{List, [], _∷_, _++_, map}
 use mathlib.Core.Option.{Option, none, some}
 use lib.Dec.{eqb}
@@ -14,7 +14,7 @@ use Rattle.network.specs.Network.{Network, vlAt, streamAt, portAt, hopAt}
 use Rattle.network.specs.References.{routeOf}
 use Rattle.rows.specs.Links.{sendMost, sendLine, muxWait, hopLine}
 use Rattle.rows.specs.Queues.{queueFigure}
-use Rattle.rows.specs.Ports.{jitterOf, figureOf}
+use Rattle.rows.specs.Ports.{figureOf}
 
 -- whether hop h is the parent
 unfoldable pub isParent : ℕ → Option ℕ → Bool

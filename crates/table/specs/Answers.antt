@@ -5,7 +5,7 @@ use mathlib.Core.List.{List, [], _∷_}
 use mathlib.Core.Option.{Option, none, some}
 use Rattle.table.specs.declared.Answer.{Answer}
 
--- number, section, row, and the named test that failed (0 where the number has but one)
+-- number, section, row, and the place of the named test that failed among its tests; 0 where the number has but one test, and for a list that is no whole number of records
 abbrev pub answer : ℕ → ℕ → ℕ → ℕ → Answer
 answer number section row test = record { number = number; section = section; row = row; test = test }
 

@@ -1,8 +1,6 @@
 -- The network that lists of numbers describe: milliseconds and Mbit/s become ticks, and a parent's row + 1 becomes its row.
 -- Assumes nothing.
 use Prim.Native.Nat.{ℕ, zero, suc, _+_, _*_}
-use mathlib.Core.Bool.{Bool}
-use mathlib.Core.List.{List}
 use mathlib.Core.Option.{Option, none, some}
 use lib.Dec.{eqb}
 use lib.ListN.{getD}
@@ -22,7 +20,7 @@ numberAt ls section i k = getD (listFor ls section) (i * listed section + k) 0
 unfoldable pub ticksAt : ℕ → ℕ
 ticksAt mbit = pick (eqb mbit 100) (perByte Mbit100) (perByte Mbit10)
 
--- "parent (0: none, else parent's row + 1)"
+-- a parent as it is stored: 0 for none, else its row + 1
 unfoldable pub parentOf : ℕ → Option ℕ
 parentOf zero = none
 parentOf (suc g) = some g

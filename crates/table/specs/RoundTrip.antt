@@ -1,6 +1,6 @@
 -- The order, demand 2: "Fields written to a table read back the same, and an accepted table, unpacked and written again, gives the same bytes."
 -- Assumes nothing.
-use Prim.Native.Nat.{ℕ, _≤_}
+use Prim.Native.Nat.{ℕ}
 use mathlib.Core.List.{List}
 use mathlib.Core.Path.{_≡_}
 use lib.ListN.{length}

@@ -1,8 +1,8 @@
 -- 01, The packed table: where each section stands, its rows, and what they mean as lists of numbers.
 -- Assumes nothing.
 use Prim.Native.Nat.{ℕ, zero, suc, _+_, _-_, _*_}
-use mathlib.Core.List.{List, [], _∷_, _++_}
-use lib.ListN.{length, getD, take, drop, replicate}
+use mathlib.Core.List.{List, [], _++_}
+use lib.ListN.{length, getD, take, replicate}
 use Rattle.layout.specs.declared.Way.the-variants.{Reading}
 use Rattle.layout.specs.Layout.{layout, size}
 use Rattle.layout.specs.Rows.{rowAt, converted, listed}

@@ -1,7 +1,7 @@
 -- 01, Answers by number: "The unpacker gives 1 to 4 and 11, in that order." And what it leaves in every lent list.
 -- Assumes nothing.
-use Prim.Native.Nat.{ℕ, _+_, _*_}
-use mathlib.Core.Bool.{Bool, true, false, _&&_, not}
+use Prim.Native.Nat.{ℕ, _*_}
+use mathlib.Core.Bool.{Bool, _&&_}
 use mathlib.Core.List.{List, [], _∷_}
 use mathlib.Core.Option.{Option, none, some}
 use mathlib.Core.Path.{_≡_}
@@ -68,7 +68,7 @@ unpackAnswer bytes n = firstGiven (answer1 bytes ∷ answer2 bytes ∷ answer3 b
 unfoldable pub unpacks : List ℕ → Lengths → Bool
 unpacks bytes n = eqb (unpackAnswer bytes n .number) 0
 
--- "send delay least, greatest, receive delay least, greatest"
+-- the delays of the header: send least and greatest, receive least and greatest
 unfoldable pub delaysOf : List ℕ → List ℕ
 delaysOf bytes = take 4 (drop 6 (converted Reading (layout 0) (headerRow bytes)))
 

@@ -1,7 +1,7 @@
 -- 01, Answers by number: "The writer takes its counts from its lists and gives 2 (also for a list that is no whole number of records), 4 (also for a value wider than its field), 11." And what it leaves in the lent bytes.
 -- Assumes nothing.
 use Prim.Native.Nat.{ℕ, zero, suc, _+_, _-_, _*_, _/_, _%_}
-use mathlib.Core.Bool.{Bool, true, false, _&&_}
+use mathlib.Core.Bool.{Bool, _&&_}
 use mathlib.Core.List.{List, [], _∷_, _++_}
 use mathlib.Core.Option.{Option, none, some}
 use mathlib.Core.Path.{_≡_}
@@ -45,7 +45,7 @@ headerFor ls =
 unfoldable pub meantRow : Lists → ℕ → ℕ → List ℕ
 meantRow ls section i = take (listed section) (drop (i * listed section) (listFor ls section)) ++ replicate (length (layout section) - listed section) 0
 
--- every list is a whole number of records: four delays, and for a section a multiple of its numbers
+-- every list is a whole number of records: four delays, and for a section a multiple of its numbers (an end system is one number, so any list of them is whole)
 unfoldable pub whole : Lists → Bool
 whole ls =
     eqb (length (ls .delays)) 4

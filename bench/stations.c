@@ -1,0 +1,37 @@
+/* The twin in C of the program crates/stations: the same stations in the same order, and the same lines.
+   Those of stations.h that run for seconds are left out there and here. With -DCOUNT a last line has the counts. */
+#include "stations.h"
+
+static const char *const LONG[] = {"near-9999", "ends", "begins", "slip", "crest", "crest-port"};
+
+static int is_long(const char *name)
+{
+    for (size_t k = 0; k < sizeof LONG / sizeof LONG[0]; k++)
+        if (strcmp(LONG[k], name) == 0)
+            return 1;
+    return 0;
+}
+
+static void show(const Plan *p)
+{
+    static Flow flows[MOST_FLOWS];
+    char line[80];
+    built(p, flows);
+    Search s = searched(flows, p->flows);
+    int n = s.answer == SERVED ? snprintf(line, sizeof line, "%s %lu %lu\n", p->name, (unsigned long)s.length,
+                                          (unsigned long)s.best.figure)
+                               : snprintf(line, sizeof line, "%s refused %d\n", p->name, (int)s.answer);
+    write(1, line, (size_t)n);
+}
+
+int main(void)
+{
+    for (size_t k = 0; k < PLANS; k++)
+        if (!is_long(plans[k].name))
+            show(&plans[k]);
+#ifdef COUNT
+    dprintf(1, "0 %lu %lu %lu %lu 0\n", (unsigned long)counted.up, (unsigned long)counted.down, (unsigned long)counted.looks,
+            (unsigned long)counted.longest);
+#endif
+    return 0;
+}
