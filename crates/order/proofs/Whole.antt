@@ -71,7 +71,7 @@ none-4 = refl
 
 -- ---- the network
 references-good : badRefSection whole ≡ none
-unfolding badRefSection badReference References.rowsOf refFault vlTests streamTests hopTests namesSystem hasHop streamNamesVl namesSubLink hopNamesVl namesPort parentEarlier parentSameVl parentLowerPort ofParent noEarlierTwin twinOf notTooDeep routeLonger leastFrom isSome firstFailing
+unfolding badRefSection badReference References.namingRows refFault vlTests streamTests hopTests namesSystem hasHop streamNamesVl namesSubLink hopNamesVl namesPort parentEarlier parentSameVl parentLowerPort ofParent noEarlierTwin twinOf notTooDeep routeLonger leastFrom isSome firstFailing
 references-good = refl
 
 none-5 : answer5 (networkIn table) ≡ none
