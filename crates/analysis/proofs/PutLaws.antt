@@ -1,11 +1,11 @@
 -- Numbers put at a place of a list: its length stays, the numbers stand at the place, and all the rest is as it was.
 -- Assumes nothing.
-use Prim.Native.Nat.{ℕ, _+_, _-_, _≤_, _<_}
+use Prim.Native.Nat.{ℕ, _+_, _≤_, _<_}
 use mathlib.Core.List.{List, _++_}
 use mathlib.Core.Path.{_≡_, sym, ap, _∙_}
 use native.Mathlib.Omega.{arith}
 use lib.ListN.{length, getD, take, drop, length-append, List·getD-append}
-use lib.Seq.{length-take-le, take-length, getD-take, getD-drop, getD-append-add, ext-getD, take-take, paste, length-paste}
+use lib.Seq.{length-take-le, take-length, getD-take, getD-append-add, ext-getD, take-take, paste, length-paste}
 use Rattle.analysis.specs.Sheet.{part}
 use Rattle.analysis.specs.Placing.{putAt}
 use Rattle.analysis.proofs.SheetLaws.{part-at, length-part}
@@ -51,18 +51,6 @@ module _ (l : List ℕ) (at : ℕ) (row : List ℕ) (fits : at + length row ≤ 
       ∙ ap (λ (k : ℕ). getD (take at l ++ row) (k + i) 0) (sym front)
       ∙ getD-append-add (take at l) row i 0
 
-  pub put-behind : (i : ℕ) → at + length row ≤ i → getD (putAt l at row) i 0 ≡ getD l i 0
-  unfolding putAt
-  put-behind i h =
-      let head = take at l ++ row in
-      let rest = drop (at + length row) l in
-      let e : i ≡ length head + (i - (at + length row)) = omega (arith, long-head) in
-      let f : at + length row + (i - (at + length row)) ≡ i = omega arith in
-      ap (λ (k : ℕ). getD (head ++ rest) k 0) e
-      ∙ getD-append-add head rest (i - (at + length row)) 0
-      ∙ getD-drop (at + length row) l (i - (at + length row)) 0
-      ∙ ap (λ (k : ℕ). getD l k 0) f
-
   -- ---- by parts
   pub part-put : part (putAt l at row) at (length row) ≡ row
   part-put =
@@ -73,7 +61,3 @@ module _ (l : List ℕ) (at : ℕ) (row : List ℕ) (fits : at + length row ≤ 
   pub part-before : (a n : ℕ) → a + n ≤ at → part (putAt l at row) a n ≡ part l a n
   part-before a n h =
       same-part (putAt l at row) l a n (omega (arith, length-put)) length-put (λ i less. put-before (a + i) (omega arith))
-
-  pub part-behind : (a n : ℕ) → at + length row ≤ a → a + n ≤ length l → part (putAt l at row) a n ≡ part l a n
-  part-behind a n h less =
-      same-part (putAt l at row) l a n (omega (arith, length-put)) length-put (λ i _. put-behind (a + i) (omega arith))
