@@ -2,14 +2,13 @@
 -- Assumes nothing.
 use mathlib.Core.Path.{_≡_, refl, sym, ap, _∙_}
 use mathlib.Core.Bool.{Bool, true, false, _&&_, not, Bool·beq, false≢true}
-use mathlib.Core.List.{List, [], _∷_, _++_, map, sum}
-use Prim.Native.Nat.{ℕ, zero, suc, _+_, _*_, _/_, _^_, _≤_, _<_, min}
+use mathlib.Core.List.{List, [], _∷_, map, sum}
+use Prim.Native.Nat.{ℕ, zero, suc, _+_, _*_, _/_, _^_, _≤_, _<_}
 use native.Mathlib.Decide.{decLt}
 use native.Mathlib.Nat.{not-suc-le-zero, le-of-suc-le-suc}
 use native.Mathlib.Omega.{arith}
 use lib.Dec.{T, ltb, leb, eqb, leb→le, eqb→eq}
-use lib.ListN.{length, getD, List·getD-eq-default, List·getD-append, List·getD-map, length-map}
-use lib.Seq.{getD-append-seam}
+use lib.ListN.{length, getD, List·getD-eq-default, List·getD-map, length-map}
 use borrow.Author.Tests.{le-ltb, ltb-false, not-false}
 use Rattle.base.proofs.Every.{every, at, left, right}
 use Rattle.base.specs.Tabulate.{total}
@@ -84,9 +83,22 @@ pub layout-past : (s : ℕ) → 6 ≤ s → layout s ≡ []
 unfolding layout
 layout-past s h = List·getD-eq-default (header ∷ endSystem ∷ vl ∷ stream ∷ port ∷ hop ∷ []) [] h
 
-listed-past : (s : ℕ) → 6 ≤ s → listed s ≡ 0
+pub listed-past : (s : ℕ) → 6 ≤ s → listed s ≡ 0
 unfolding listed
 listed-past s h = List·getD-eq-default (10 ∷ 1 ∷ 4 ∷ 7 ∷ 3 ∷ 3 ∷ []) 0 h
+
+-- ---- there is no field after a section's last
+-- a number that is none of those below n, one by one as a `match` leaves it
+abbrev pub NoneBelow : ℕ → ℕ → Type 0
+NoneBelow zero k = Unit
+NoneBelow (suc n) k = NoneBelow n k × (k ≡ n → ⊥)
+
+none-below : (n k : ℕ) → NoneBelow n k → n ≤ k
+none-below zero k h = omega arith
+none-below (suc n) k (h, d) = let l = none-below n k h in omega arith
+
+pub no-field : (ss : List Shape) (k : ℕ) → NoneBelow (length ss) k → blank ≡ getD ss k blank
+no-field ss k h = sym (List·getD-eq-default ss blank (none-below (length ss) k h))
 
 -- ---- the test
 all-sound : T (every (λ s. soundSection (layout s) (listed s)) 6)
@@ -226,39 +238,7 @@ pub listed-is : (s : ℕ) → listed s ≡ getD (10 ∷ 1 ∷ 4 ∷ 7 ∷ 3 ∷ 
 unfolding listed
 listed-is s = refl
 
--- a table of six sections and one that does not exist, looked up where a section is known
-pub known-at : (l : List ℕ) (s : ℕ) → length l ≡ 6 → getD (l ++ (0 ∷ [])) (min s 6) 0 ≡ getD l s 0
-known-at l s e = go (decLt s 6)
-  where
-    go : Dec (s < 6) → getD (l ++ (0 ∷ [])) (min s 6) 0 ≡ getD l s 0
-    go (yes h) = let m : min s 6 ≡ s = omega arith in rw m (List·getD-append l (0 ∷ []) 0 s (omega arith))
-    go (no n) =
-        let m : min s 6 ≡ length l = omega arith in
-        rw (m, List·getD-eq-default l 0 {n = s} (omega arith)) (getD-append-seam l 0 [] 0)
-
 -- ---- section by section
--- a place of a section that is known by its number, and the field there
-pub place-in : (s t k : ℕ) → s ≡ t → k < length (layout s) → k < getD (11 ∷ 2 ∷ 4 ∷ 8 ∷ 4 ∷ 3 ∷ []) t 0
-place-in s t k e h = rw (← (fields-are t), ← e) h
-
-any-default : (ss : List Shape) (k : ℕ) (a b : Shape) → k < length ss → getD ss k a ≡ getD ss k b
-any-default [] k a b h = absurd (not-suc-le-zero h)
-any-default (s ∷ ss) zero a b h = refl
-any-default (s ∷ ss) (suc k) a b h = any-default ss k a b (le-of-suc-le-suc h)
-
-pub field-is : (ss : List Shape) (s t k : ℕ) (d : Shape) → layout t ≡ ss → s ≡ t → k < length (layout s) → getD ss k d ≡ getD (layout s) k blank
-field-is ss s t k d e f h =
-    let same : layout s ≡ ss = ap layout f ∙ e in
-    rw (← same) (any-default (layout s) k d blank h)
-
--- a section with fields that is none of the first five is the last
-pub last-section : (s k : ℕ) → k < length (layout s) → 5 ≤ s → s ≡ 5
-last-section s k h l = go (decLt s 6)
-  where
-    go : Dec (s < 6) → s ≡ 5
-    go (yes m) = omega arith
-    go (no n) = absurd (not-suc-le-zero (rw (layout-past s (omega arith)) at h))
-
 -- pairs that are in order have the header, streams and ports
 pub no-orders : (s : ℕ) → (s ≡ 0 → ⊥) → (s ≡ 3 → ⊥) → (s ≡ 4 → ⊥) → orders s ≡ []
 unfolding orders

@@ -1,16 +1,19 @@
 // The layout of the packed table as data, and a record of it as a row of numbers: read, tested, meant, stored and written.
-// One body serves every section: what differs between sections stands in the tables below.
+// One body serves every section: what differs between sections stands in `shapes`, and in the three sizes and the order of fields below.
+mod shapes;
+
 use bits::Cursor;
 use frame::Reply;
+use shapes::shape_at;
 ghost use mathlib.Core.Path.{_≡_};
 ghost use mathlib.Core.Option.{none, some};
-ghost use Prim.Native.Nat.{_≤_, _<_, min};
+ghost use Prim.Native.Nat.{_≤_};
 ghost use lib.Dec.{eqb};
 ghost use lib.ListN.{length, getD};
 ghost use Rattle.base.specs.Pick.{pick, within};
 ghost use Rattle.base.specs.Said.{ruled};
 ghost use Rattle.frame.specs.Reply.{said};
-ghost use Rattle.layout.specs.Layout.{layout, widths, size, blank};
+ghost use Rattle.layout.specs.Layout.{layout, widths, size};
 ghost use Rattle.layout.specs.Fields.{meaning, storedAs, convert};
 ghost use Rattle.layout.specs.Rows.{rowRoom, rowAt, withRowAt, wide, converted, listed, orderFault, rowFault, faultOf};
 
@@ -33,60 +36,6 @@ pub enum Kind {
 // A field's width in bits, and its kind.
 pub struct Shape(pub usize, pub Kind);
 
-const HEADER: [Shape; 11] = [
-    Shape(8, Kind::Number(1, 1)),
-    Shape(8, Kind::Number(0, 64)),
-    Shape(12, Kind::Number(0, 256)),
-    Shape(12, Kind::Number(0, 512)),
-    Shape(8, Kind::Number(0, 128)),
-    Shape(12, Kind::Number(0, 1_024)),
-    Shape(12, Kind::Number(0, 1_875)),
-    Shape(12, Kind::Number(0, 1_875)),
-    Shape(12, Kind::Number(0, 1_875)),
-    Shape(12, Kind::Number(0, 1_875)),
-    Shape(4, Kind::Padding),
-];
-
-const END_SYSTEM: [Shape; 2] = [Shape(1, Kind::Speed), Shape(7, Kind::Padding)];
-
-const VL: [Shape; 4] = [
-    Shape(8, Kind::Reference),
-    Shape(3, Kind::Gap),
-    Shape(2, Kind::LessOne),
-    Shape(11, Kind::Number(64, 1_518)),
-];
-
-const STREAM: [Shape; 8] = [
-    Shape(12, Kind::Reference),
-    Shape(2, Kind::Reference),
-    Shape(1, Kind::Number(0, 1)),
-    Shape(14, Kind::Number(1, 8_192)),
-    Shape(14, Kind::Number(1, 8_192)),
-    Shape(27, Kind::Number(12_500, 125_000_000)),
-    Shape(27, Kind::Number(0, 125_000_000)),
-    Shape(7, Kind::Padding),
-];
-
-const PORT: [Shape; 4] = [
-    Shape(1, Kind::Speed),
-    Shape(12, Kind::Number(0, 1_250)),
-    Shape(12, Kind::Number(0, 1_250)),
-    Shape(7, Kind::Padding),
-];
-
-const HOP: [Shape; 3] = [
-    Shape(12, Kind::Reference),
-    Shape(8, Kind::Reference),
-    Shape(12, Kind::Reference),
-];
-
-// The fields of a record, the numbers it has in a list, and its bytes, by section; then a section that does not exist.
-const FIELDS: [usize; 7] = [11, 2, 4, 8, 4, 3, 0];
-
-const NUMBERS: [usize; 7] = [10, 1, 4, 7, 3, 3, 0];
-
-const BYTES: [usize; 7] = [14, 1, 3, 13, 4, 4, 0];
-
 // Whether numbers are read from the table or are to be written to it.
 pub enum Way {
     Reading,
@@ -99,46 +48,46 @@ pub enum Fault {
     Nothing,
 }
 
-// The place of a section in the tables above.
-fn known(section: usize) -> usize
-    ensures { λ r. ⌜ r ≡ min section 6 ⌝ }
-{
-    if section < 6 {
-        return section;
-    }
-    6
-}
-
+// The fields of a record, the numbers it has in a list, and its bytes, by section; 0 where there is no such section.
 pub fn fields_in(section: usize) -> usize
     ensures { λ r. ⌜ r ≡ length (layout section) ⌝ }
 {
-    FIELDS[known(section)]
+    match section {
+        0 => 11,
+        1 => 2,
+        2 => 4,
+        3 => 8,
+        4 => 4,
+        5 => 3,
+        _ => 0,
+    }
 }
 
 pub fn numbers_in(section: usize) -> usize
     ensures { λ r. ⌜ r ≡ listed section ⌝ }
 {
-    NUMBERS[known(section)]
+    match section {
+        0 => 10,
+        1 => 1,
+        2 => 4,
+        3 => 7,
+        4 => 3,
+        5 => 3,
+        _ => 0,
+    }
 }
 
 pub fn bytes_in(section: usize) -> usize
     ensures { λ r. ⌜ r ≡ size section ⌝ }
 {
-    BYTES[known(section)]
-}
-
-// The shape of field k of a section, where it has one.
-fn shape_at(section: usize, k: usize) -> Shape
-    requires { ⌜ k < length (layout section) ⌝ }
-    ensures { λ r. ⌜ r ≡ getD (layout section) k blank ⌝ }
-{
     match section {
-        0 => HEADER[k],
-        1 => END_SYSTEM[k],
-        2 => VL[k],
-        3 => STREAM[k],
-        4 => PORT[k],
-        _ => HOP[k],
+        0 => 14,
+        1 => 1,
+        2 => 3,
+        3 => 13,
+        4 => 4,
+        5 => 4,
+        _ => 0,
     }
 }
 

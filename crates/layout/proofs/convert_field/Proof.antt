@@ -8,18 +8,6 @@ use borrow.Author.Needs.{needs}
 use Rattle.layout.proofs.convert_field.Statement.{statement}
 use Rattle.layout.proofs.convert_field.Tie as tie
 
-enum-told : tie.Need-enum-told
-enum-told c = search needs
-
-meaning-of-requires : tie.Need-meaning-of-requires
-meaning-of-requires c κs = search needs
-
-enum-told-2 : tie.Need-enum-told-2
-enum-told-2 c = search needs
-
-stored-as-requires : tie.Need-stored-as-requires
-stored-as-requires c κs = search needs
-
 returns : tie.Need-returns
 unfolding convert
 returns c =
@@ -35,4 +23,4 @@ returns-2 c =
 pub convert-field-spec : {M : Type 1} → statement M
 convert-field-spec =
     tie.close
-    (tie.spec enum-told meaning-of-requires enum-told-2 stored-as-requires returns returns-2)
+    (tie.spec (λ c. search needs) (λ c κs. search needs) (λ c. search needs) (λ c κs. search needs) returns returns-2)

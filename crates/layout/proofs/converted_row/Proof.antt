@@ -20,14 +20,8 @@ Inv-loop way section row n out₀ k₀ out k = (k ≤ n) × (out ≡ wide (take 
 abbrev μ-loop : tie.MeasureT-loop
 μ-loop way section row n out₀ k₀ out k = n - k
 
-fields-in-requires : tie.Need-fields-in-requires Inv-loop μ-loop
-fields-in-requires c κs = search needs
-
 loop-holds : tie.Need-loop-holds Inv-loop μ-loop
 loop-holds c = (omega arith, sym (wide-start []))
-
-shape-at-requires : tie.Need-shape-at-requires Inv-loop μ-loop
-shape-at-requires c κs = search needs
 
 mul-convert-field : tie.Need-mul-convert-field Inv-loop μ-loop
 mul-convert-field c = omega (arith, few-fields (c .before .before .before .before .args .section))
@@ -38,20 +32,11 @@ array-read-convert-field c = omega (arith, few-fields (c .before .before .before
 convert-field-requires : tie.Need-convert-field-requires Inv-loop μ-loop
 convert-field-requires c κs = rw (c .shape-at .ensures) (narrow (c .before .before .before .before .args .section) (c .before .before .loop .k) (omega arith))
 
-value-or-0-requires : tie.Need-value-or-0-requires Inv-loop μ-loop
-value-or-0-requires c κs = search needs
-
 mul-out : tie.Need-mul-out Inv-loop μ-loop
 mul-out c = omega (arith, few-fields (c .before .before .before .before .before .before .args .section))
 
 array-write-out : tie.Need-array-write-out Inv-loop μ-loop
 array-write-out c = omega (arith, few-fields (c .before .before .before .before .before .before .args .section))
-
-add-k : tie.Need-add-k Inv-loop μ-loop
-add-k c = search needs
-
-loop-less : tie.Need-loop-less Inv-loop μ-loop
-loop-less c = search needs
 
 loop-again : tie.Need-loop-again Inv-loop μ-loop
 loop-again c =
@@ -73,16 +58,16 @@ converted-row-spec =
     (tie.spec
     Inv-loop
     μ-loop
-    fields-in-requires
+    (λ c κs. search needs)
     loop-holds
-    shape-at-requires
+    (λ c κs. search needs)
     mul-convert-field
     array-read-convert-field
     convert-field-requires
-    value-or-0-requires
+    (λ c κs. search needs)
     mul-out
     array-write-out
-    add-k
-    loop-less
+    (λ c. search needs)
+    (λ c. search needs)
     loop-again
     returns)

@@ -17,14 +17,8 @@ Inv-loop way section row n k₀ k = (k ≤ n) × GoodTo way section row k
 abbrev μ-loop : tie.MeasureT-loop
 μ-loop way section row n k₀ k = n - k
 
-fields-in-requires : tie.Need-fields-in-requires Inv-loop μ-loop
-fields-in-requires c κs = search needs
-
 loop-holds : tie.Need-loop-holds Inv-loop μ-loop
 loop-holds c = (omega arith, (λ i h. absurd (omega arith)))
-
-shape-at-requires : tie.Need-shape-at-requires Inv-loop μ-loop
-shape-at-requires c κs = search needs
 
 mul-convert-field : tie.Need-mul-convert-field Inv-loop μ-loop
 mul-convert-field c = omega (arith, few-fields (c .before .before .before .before .args .section))
@@ -34,9 +28,6 @@ array-read-convert-field c = omega (arith, few-fields (c .before .before .before
 
 convert-field-requires : tie.Need-convert-field-requires Inv-loop μ-loop
 convert-field-requires c κs = rw (c .shape-at .ensures) (narrow (c .before .before .before .before .args .section) (c .before .before .loop .k) (omega arith))
-
-is-refused-requires : tie.Need-is-refused-requires Inv-loop μ-loop
-is-refused-requires c κs = search needs
 
 returns : tie.Need-returns Inv-loop μ-loop
 unfolding faultOf
@@ -48,12 +39,6 @@ returns c =
     (refused-here (a .way) (a .section) (a .t3) (l .k) _ _ (c .before .before .before .shape-at .ensures) (c .before .before .convert-field .ensures)
     (sym (c .before .is-refused .ensures) ∙ c .if1 .taken)))
 
-add-k : tie.Need-add-k Inv-loop μ-loop
-add-k c = search needs
-
-loop-less : tie.Need-loop-less Inv-loop μ-loop
-loop-less c = search needs
-
 loop-again : tie.Need-loop-again Inv-loop μ-loop
 loop-again c =
     let a = c .before .before .before .before .before .before .before .args in
@@ -62,9 +47,6 @@ loop-again c =
       good-more (a .way) (a .section) (a .t3) (l .k) _ _ (c .before .before .before .shape-at .ensures) (c .before .before .convert-field .ensures) (l .inv .1)
           (sym (c .before .is-refused .ensures) ∙ c .if1 .left),
     )
-
-order-fault-requires : tie.Need-order-fault-requires Inv-loop μ-loop
-order-fault-requires c κs = search needs
 
 returns-2 : tie.Need-returns-2 Inv-loop μ-loop
 returns-2 c =
@@ -77,16 +59,16 @@ fault-of-spec =
     (tie.spec
     Inv-loop
     μ-loop
-    fields-in-requires
+    (λ c κs. search needs)
     loop-holds
-    shape-at-requires
+    (λ c κs. search needs)
     mul-convert-field
     array-read-convert-field
     convert-field-requires
-    is-refused-requires
+    (λ c κs. search needs)
     returns
-    add-k
-    loop-less
+    (λ c. search needs)
+    (λ c. search needs)
     loop-again
-    order-fault-requires
+    (λ c κs. search needs)
     returns-2)

@@ -8,26 +8,14 @@ use borrow.Author.Needs.{needs}
 use Rattle.layout.proofs.has_row.Statement.{statement}
 use Rattle.layout.proofs.has_row.Tie as tie
 
-bytes-in-requires : tie.Need-bytes-in-requires
-bytes-in-requires c κs = search needs
-
 mul-w : tie.Need-mul-w
 mul-w c = omega (arith, size-most (c .before .args .section))
 
 returns : tie.Need-returns
 returns c = sym (too-long _ _ _ (c .if1 .taken))
 
-mul-if2 : tie.Need-mul-if2
-mul-if2 c = search needs
-
 returns-2 : tie.Need-returns-2
 returns-2 c = sym (too-short _ _ _ (omega (arith, whole-bytes (c .before .before .before .args .section))))
-
-mul-result : tie.Need-mul-result
-mul-result c = search needs
-
-sub-result : tie.Need-sub-result
-sub-result c = search needs
 
 returns-3 : tie.Need-returns-3
 returns-3 c = let w = whole-bytes (c .before .before .before .args .section) in last-row _ _ _ _ (omega arith) (λ l. omega arith) (λ l. omega arith)
@@ -35,4 +23,4 @@ returns-3 c = let w = whole-bytes (c .before .before .before .args .section) in 
 pub has-row-spec : {M : Type 1} → statement M
 has-row-spec =
     tie.close
-    (tie.spec bytes-in-requires mul-w returns mul-if2 returns-2 mul-result sub-result returns-3)
+    (tie.spec (λ c κs. search needs) mul-w returns (λ c. search needs) returns-2 (λ c. search needs) (λ c. search needs) returns-3)

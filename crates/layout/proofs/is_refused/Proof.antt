@@ -9,12 +9,6 @@ use borrow.Author.Needs.{needs}
 use Rattle.layout.proofs.is_refused.Statement.{statement}
 use Rattle.layout.proofs.is_refused.Tie as tie
 
-enum-known-r : tie.Need-enum-known-r
-enum-known-r c = search needs
-
-enum-told : tie.Need-enum-told
-enum-told c = search needs
-
 returns : tie.Need-returns
 returns c = sym (ap (λ (x : Reply). eqb (said x .number) 4) (c .before .r .given .1) ∙ value-not-refused _)
 
@@ -22,4 +16,4 @@ returns-2 : tie.Need-returns-2
 returns-2 c = sym (ap (λ (x : Reply). eqb (said x .number) 4) (c .enum-told .given .1) ∙ refused-is)
 
 pub is-refused-spec : {M : Type 1} → statement M
-is-refused-spec = tie.close (tie.spec enum-known-r enum-told returns returns-2)
+is-refused-spec = tie.close (tie.spec (λ c. search needs) (λ c. search needs) returns returns-2)

@@ -16,36 +16,6 @@ use Rattle.layout.proofs.meaning_of.Tie as tie
 of-kind : (kind k : Kind) (n : ℕ) → kind ≡ k → meaning kind n ≡ meaning k n
 of-kind kind k n e = ap (λ (x : Kind). meaning x n) e
 
-enum-known-kind : tie.Need-enum-known-kind
-enum-known-kind c = search needs
-
-between-requires : tie.Need-between-requires
-between-requires c κs = search needs
-
-enum-told : tie.Need-enum-told
-enum-told c = search needs
-
-enum-told-2 : tie.Need-enum-told-2
-enum-told-2 c = search needs
-
-between-requires-2 : tie.Need-between-requires-2
-between-requires-2 c κs = search needs
-
-enum-told-3 : tie.Need-enum-told-3
-enum-told-3 c = search needs
-
-ms-of-requires : tie.Need-ms-of-requires
-ms-of-requires c κs = search needs
-
-enum-told-4 : tie.Need-enum-told-4
-enum-told-4 c = search needs
-
-add-t8 : tie.Need-add-t8
-add-t8 c = search needs
-
-enum-told-5 : tie.Need-enum-told-5
-enum-told-5 c = search needs
-
 returns : tie.Need-returns
 unfolding meaning
 returns c =
@@ -98,16 +68,16 @@ pub meaning-of-spec : {M : Type 1} → statement M
 meaning-of-spec =
     tie.close
     (tie.spec
-    enum-known-kind
-    between-requires
-    enum-told
-    enum-told-2
-    between-requires-2
-    enum-told-3
-    ms-of-requires
-    enum-told-4
-    add-t8
-    enum-told-5
+    (λ c. search needs)
+    (λ c κs. search needs)
+    (λ c. search needs)
+    (λ c. search needs)
+    (λ c κs. search needs)
+    (λ c. search needs)
+    (λ c κs. search needs)
+    (λ c. search needs)
+    (λ c. search needs)
+    (λ c. search needs)
     returns
     returns-2
     returns-3

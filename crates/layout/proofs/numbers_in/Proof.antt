@@ -1,25 +1,21 @@
--- `layout::numbers_in` meets its contract: the code's table has the numbers of each section.
+-- `layout::numbers_in` meets its contract: the code has the numbers of each section, and 0 after the last.
 -- Assumes nothing.
-use mathlib.Core.Path.{refl, sym, _∙_}
-use mathlib.Core.List.{[], _∷_}
-use Rattle.layout.proofs.LayoutLaws.{known-at, listed-is}
-use borrow.Author.Needs.{needs}
+use mathlib.Core.Path.{refl}
+use native.Mathlib.Omega.{arith}
+use Rattle.layout.specs.Rows.{listed}
+use Rattle.layout.proofs.LayoutLaws.{listed-past}
 use Rattle.layout.proofs.numbers_in.Statement.{statement}
 use Rattle.layout.proofs.numbers_in.Tie as tie
 
-known-requires : tie.Need-known-requires
-known-requires c κs = search needs
-
-mul-result : tie.Need-mul-result
-mul-result c = search needs
-
-array-read-result : tie.Need-array-read-result
-array-read-result c = search needs
-
-returns : tie.Need-returns
-returns c =
-    let s = c .before .args .section in
-    rw (c .known .ensures) (known-at (10 ∷ 1 ∷ 4 ∷ 7 ∷ 3 ∷ 3 ∷ []) s refl ∙ sym (listed-is s))
-
 pub numbers-in-spec : {M : Type 1} → statement M
-numbers-in-spec = tie.close (tie.spec known-requires mul-result array-read-result returns)
+unfolding listed
+numbers-in-spec =
+    tie.close
+    (tie.spec
+    (λ c. rw (c .match .keys1) refl)
+    (λ c. rw (c .match .keys2) refl)
+    (λ c. rw (c .match .keys3) refl)
+    (λ c. rw (c .match .keys4) refl)
+    (λ c. rw (c .match .keys5) refl)
+    (λ c. rw (c .match .keys6) refl)
+    (λ c. rw (listed-past (c .before .args .section) (omega arith)) refl))

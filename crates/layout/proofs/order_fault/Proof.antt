@@ -46,23 +46,11 @@ port-none : (row : List ℕ) → getD row 1 0 ≤ getD row 2 0 → orderFault 4 
 unfolding orders
 port-none row h = pairs-pass 4 row (h, tt)
 
-array-read-if1 : tie.Need-array-read-if1
-array-read-if1 c = search needs
-
-array-read-if1-2 : tie.Need-array-read-if1-2
-array-read-if1-2 c = search needs
-
 returns : tie.Need-returns
 unfolding faultOf
 returns c =
     let a = c .before .before .args in
     sym (of-section _ _ (a .t2) (omega arith) ∙ header-first (a .t2) (c .if1 .taken))
-
-array-read-if2 : tie.Need-array-read-if2
-array-read-if2 c = search needs
-
-array-read-if2-2 : tie.Need-array-read-if2-2
-array-read-if2-2 c = search needs
 
 returns-2 : tie.Need-returns-2
 unfolding faultOf
@@ -70,23 +58,11 @@ returns-2 c =
     let a = c .before .before .before .args in
     sym (of-section _ _ (a .t2) (omega arith) ∙ header-second (a .t2) (c .before .if1 .left) (c .if2 .taken))
 
-array-read-if3 : tie.Need-array-read-if3
-array-read-if3 c = search needs
-
-array-read-if3-2 : tie.Need-array-read-if3-2
-array-read-if3-2 c = search needs
-
 returns-3 : tie.Need-returns-3
 unfolding faultOf
 returns-3 c =
     let a = c .before .before .args in
     sym (of-section _ _ (a .t2) (omega arith) ∙ stream-only (a .t2) (c .if3 .taken))
-
-array-read-if4 : tie.Need-array-read-if4
-array-read-if4 c = search needs
-
-array-read-if4-2 : tie.Need-array-read-if4-2
-array-read-if4-2 c = search needs
 
 returns-4 : tie.Need-returns-4
 unfolding faultOf
@@ -122,17 +98,17 @@ pub order-fault-spec : {M : Type 1} → statement M
 order-fault-spec =
     tie.close
     (tie.spec
-    array-read-if1
-    array-read-if1-2
+    (λ c. search needs)
+    (λ c. search needs)
     returns
-    array-read-if2
-    array-read-if2-2
+    (λ c. search needs)
+    (λ c. search needs)
     returns-2
-    array-read-if3
-    array-read-if3-2
+    (λ c. search needs)
+    (λ c. search needs)
     returns-3
-    array-read-if4
-    array-read-if4-2
+    (λ c. search needs)
+    (λ c. search needs)
     returns-4
     returns-5
     returns-6

@@ -29,38 +29,17 @@ abbrev μ-loop : tie.MeasureT-loop
 eleven : (c : tie.Start Inv-loop μ-loop) → length (c .args .t4) ≡ 11
 eleven c = good-length (eInt w64) 11 (c .args .t4) _ (c .good .1 .1 .1 .0)
 
-has-row-requires : tie.Need-has-row-requires Inv-loop μ-loop
-has-row-requires c κs = search needs
-
-fields-in-requires : tie.Need-fields-in-requires Inv-loop μ-loop
-fields-in-requires c κs = search needs
-
-new-requires : tie.Need-new-requires Inv-loop μ-loop
-new-requires c κs = search needs
-
 loop-holds : tie.Need-loop-holds Inv-loop μ-loop
 loop-holds c =
     let a = c .before .before .before .before .before .args in
     let ws = widths (a .section) in
     (omega arith, omega (arith, total-start ws, c .new .ensures), sym (put-start (a .table .now) (a .at) ws (a .t4)))
 
-shape-at-requires : tie.Need-shape-at-requires Inv-loop μ-loop
-shape-at-requires c κs = search needs
-
 mul-put : tie.Need-mul-put Inv-loop μ-loop
 mul-put c = omega (arith, few-fields (c .before .before .before .before .before .before .before .before .before .args .section))
 
 array-read-put : tie.Need-array-read-put Inv-loop μ-loop
 array-read-put c = omega (arith, few-fields (c .before .before .before .before .before .before .before .before .before .args .section))
-
-put-requires : tie.Need-put-requires Inv-loop μ-loop
-put-requires c κs = search needs
-
-add-k : tie.Need-add-k Inv-loop μ-loop
-add-k c = search needs
-
-loop-less : tie.Need-loop-less Inv-loop μ-loop
-loop-less c = search needs
 
 loop-again : tie.Need-loop-again Inv-loop μ-loop
 loop-again c =
@@ -97,16 +76,16 @@ put-row-spec =
     (tie.spec
     Inv-loop
     μ-loop
-    has-row-requires
-    fields-in-requires
-    new-requires
+    (λ c κs. search needs)
+    (λ c κs. search needs)
+    (λ c κs. search needs)
     loop-holds
-    shape-at-requires
+    (λ c κs. search needs)
     mul-put
     array-read-put
-    put-requires
-    add-k
-    loop-less
+    (λ c κs. search needs)
+    (λ c. search needs)
+    (λ c. search needs)
     loop-again
     same-length
     returns

@@ -25,37 +25,16 @@ Inv-loop table at section row₀ n c₀ k₀ row c k =
 abbrev μ-loop : tie.MeasureT-loop
 μ-loop table at section row₀ n c₀ k₀ row c k = n - k
 
-has-row-requires : tie.Need-has-row-requires Inv-loop μ-loop
-has-row-requires c κs = search needs
-
-fields-in-requires : tie.Need-fields-in-requires Inv-loop μ-loop
-fields-in-requires c κs = search needs
-
-new-requires : tie.Need-new-requires Inv-loop μ-loop
-new-requires c κs = search needs
-
 loop-holds : tie.Need-loop-holds Inv-loop μ-loop
 loop-holds c =
     let ws = widths (c .before .before .before .before .before .args .section) in
     (omega arith, omega (arith, total-start ws, c .new .ensures), sym (wide-start ws))
-
-shape-at-requires : tie.Need-shape-at-requires Inv-loop μ-loop
-shape-at-requires c κs = search needs
-
-read-requires : tie.Need-read-requires Inv-loop μ-loop
-read-requires c κs = search needs
 
 mul-row : tie.Need-mul-row Inv-loop μ-loop
 mul-row c = omega (arith, few-fields (c .before .before .before .before .before .before .before .before .before .args .section))
 
 array-write-row : tie.Need-array-write-row Inv-loop μ-loop
 array-write-row c = omega (arith, few-fields (c .before .before .before .before .before .before .before .before .before .args .section))
-
-add-k : tie.Need-add-k Inv-loop μ-loop
-add-k c = search needs
-
-loop-less : tie.Need-loop-less Inv-loop μ-loop
-loop-less c = search needs
 
 loop-again : tie.Need-loop-again Inv-loop μ-loop
 loop-again c =
@@ -87,16 +66,16 @@ row-at-spec =
     (tie.spec
     Inv-loop
     μ-loop
-    has-row-requires
-    fields-in-requires
-    new-requires
+    (λ c κs. search needs)
+    (λ c κs. search needs)
+    (λ c κs. search needs)
     loop-holds
-    shape-at-requires
-    read-requires
+    (λ c κs. search needs)
+    (λ c κs. search needs)
     mul-row
     array-write-row
-    add-k
-    loop-less
+    (λ c. search needs)
+    (λ c. search needs)
     loop-again
     returns
     returns-2)

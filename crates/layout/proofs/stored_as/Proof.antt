@@ -20,41 +20,8 @@ of-kind kind k width v e = ap (λ (x : Kind). storedAs x width v) e
 shifted : (w : ℕ) → w ≤ 32 → 1 * 2 ^ w % 18446744073709551616 ≡ 2 ^ w
 shifted w h = omega (arith, pow-mono {i = w} {j = 32} h)
 
-enum-known-kind : tie.Need-enum-known-kind
-enum-known-kind c = search needs
-
-between-requires : tie.Need-between-requires
-between-requires c κs = search needs
-
-enum-told : tie.Need-enum-told
-enum-told c = search needs
-
-shl-between : tie.Need-shl-between
-shl-between c = search needs
-
 sub-between : tie.Need-sub-between
 sub-between c = omega (arith, pow-pos (c .before .before .args .width), shifted (c .before .before .args .width) (c .before .before .pre))
-
-between-requires-2 : tie.Need-between-requires-2
-between-requires-2 c κs = search needs
-
-enum-told-2 : tie.Need-enum-told-2
-enum-told-2 c = search needs
-
-between-requires-3 : tie.Need-between-requires-3
-between-requires-3 c κs = search needs
-
-enum-told-3 : tie.Need-enum-told-3
-enum-told-3 c = search needs
-
-code-of-requires : tie.Need-code-of-requires
-code-of-requires c κs = search needs
-
-enum-told-4 : tie.Need-enum-told-4
-enum-told-4 c = search needs
-
-enum-told-5 : tie.Need-enum-told-5
-enum-told-5 c = search needs
 
 returns : tie.Need-returns
 unfolding storedAs
@@ -112,18 +79,18 @@ pub stored-as-spec : {M : Type 1} → statement M
 stored-as-spec =
     tie.close
     (tie.spec
-    enum-known-kind
-    between-requires
-    enum-told
-    shl-between
+    (λ c. search needs)
+    (λ c κs. search needs)
+    (λ c. search needs)
+    (λ c. search needs)
     sub-between
-    between-requires-2
-    enum-told-2
-    between-requires-3
-    enum-told-3
-    code-of-requires
-    enum-told-4
-    enum-told-5
+    (λ c κs. search needs)
+    (λ c. search needs)
+    (λ c κs. search needs)
+    (λ c. search needs)
+    (λ c κs. search needs)
+    (λ c. search needs)
+    (λ c. search needs)
     returns
     returns-2
     returns-3

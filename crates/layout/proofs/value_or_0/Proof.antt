@@ -9,12 +9,6 @@ use borrow.Author.Needs.{needs}
 use Rattle.layout.proofs.value_or_0.Statement.{statement}
 use Rattle.layout.proofs.value_or_0.Tie as tie
 
-enum-known-r : tie.Need-enum-known-r
-enum-known-r c = search needs
-
-enum-told : tie.Need-enum-told
-enum-told c = search needs
-
 returns : tie.Need-returns
 returns c = sym (ap (λ (x : Reply). getD (said x .values) 0 0) (c .before .r .given .1) ∙ value-is _)
 
@@ -22,4 +16,4 @@ returns-2 : tie.Need-returns-2
 returns-2 c = sym (ap (λ (x : Reply). getD (said x .values) 0 0) (c .enum-told .given .1) ∙ refused-value)
 
 pub value-or-0-spec : {M : Type 1} → statement M
-value-or-0-spec = tie.close (tie.spec enum-known-r enum-told returns returns-2)
+value-or-0-spec = tie.close (tie.spec (λ c. search needs) (λ c. search needs) returns returns-2)
