@@ -1,4 +1,4 @@
-/* A twin in C of the search in crates/station/src/lib.rt, function for function: the busy length and the figure of flows.
+/* A twin in C of the search in crates/station/src, function for function: the busy length and the figure of flows.
    With -DCOUNT it counts the passes over the flows, those of the way up and of the way down, and the flows looked at. */
 #ifndef SEARCH_H
 #define SEARCH_H
@@ -7,6 +7,7 @@
 
 #define MOST_FLOWS 1024
 #define LIMIT 125000000
+#define CYCLE 1600000
 
 typedef struct {
     uint64_t period, jitter, cost;
@@ -39,6 +40,7 @@ static int in_range(const Flow *f)
 typedef struct {
     int fair;
     uint64_t load, start;
+    int even;
 } Tally;
 
 /* Adds a flow that is in range. */
@@ -49,12 +51,14 @@ static Tally step(Tally a, const Flow *f, uint64_t d)
     a.load += (q + 1) * f->cost;
     if (f->jitter < edge && a.start < edge - f->jitter)
         a.start = edge - f->jitter;
+    if (d == 0 && a.even)
+        a.even = CYCLE % f->period == 0;
     return a;
 }
 
 static Tally sweep(const Flow *flows, uint64_t n, uint64_t d)
 {
-    Tally a = {1, 0, 0};
+    Tally a = {1, 0, 0, 1};
     for (uint64_t i = 0; i < n; i++) {
         if (a.fair && in_range(&flows[i]))
             a = step(a, &flows[i], d);
@@ -77,11 +81,12 @@ typedef struct {
     uint64_t d, length;
     Best best;
     enum verdict answer;
+    int even;
 } Search;
 
 static Search found(enum verdict answer, uint64_t length, Best best)
 {
-    return (Search){0, 0, 0, length, best, answer};
+    return (Search){0, 0, 0, length, best, answer, 0};
 }
 
 static uint64_t less(uint64_t a, uint64_t b)
@@ -109,16 +114,24 @@ static Search fall(uint64_t length, Best best, uint64_t load, uint64_t start)
     Best b = better(best, load, start);
     if (load <= b.figure)
         return found(SERVED, length, b);
-    return (Search){1, 0, lesser(less(load, b.figure), less(start, 1)), length, b, OUT_OF_RANGE};
+    return (Search){1, 0, lesser(less(load, b.figure), less(start, 1)), length, b, OUT_OF_RANGE, 0};
 }
 
-static Search rise(uint64_t d, Best best, uint64_t load, uint64_t start)
+/* No span of a cycle or more is as good as the one that is a cycle shorter, where the work is even. */
+static Search turn_down(uint64_t length, Best best, int even, uint64_t load, uint64_t start)
+{
+    if (even && CYCLE < length)
+        return (Search){1, 0, CYCLE - 1, length, best, OUT_OF_RANGE, even};
+    return fall(length, best, load, start);
+}
+
+static Search rise(uint64_t d, Best best, int even, uint64_t load, uint64_t start)
 {
     if (load <= d + 1)
-        return fall(d + 1, best, load, start);
+        return turn_down(d + 1, best, even, load, start);
     if (LIMIT < load)
         return found(ENDLESS, 0, best);
-    return (Search){1, 1, load - 1, 0, best, OUT_OF_RANGE};
+    return (Search){1, 1, load - 1, 0, best, OUT_OF_RANGE, even};
 }
 
 static Best seed(uint64_t d, uint64_t load, Best best)
@@ -132,7 +145,7 @@ static Search turn(Search s, Tally t)
         return found(OUT_OF_RANGE, 0, s.best);
     if (!s.rising)
         return fall(s.length, s.best, t.load, t.start);
-    return rise(s.d, seed(s.d, t.load, s.best), t.load, t.start);
+    return rise(s.d, seed(s.d, t.load, s.best), s.d == 0 ? t.even : s.even, t.load, t.start);
 }
 
 static Search begin(uint64_t n)
@@ -140,7 +153,7 @@ static Search begin(uint64_t n)
     Best best = {0, 0};
     if (MOST_FLOWS < n)
         return found(OUT_OF_RANGE, 0, best);
-    return (Search){1, 1, 0, 0, best, OUT_OF_RANGE};
+    return (Search){1, 1, 0, 0, best, OUT_OF_RANGE, 0};
 }
 
 static Search searched(const Flow *flows, uint64_t n)

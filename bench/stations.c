@@ -2,7 +2,7 @@
    Those of stations.h that run for seconds are left out there and here. With -DCOUNT a last line has the counts. */
 #include "stations.h"
 
-static const char *const LONG[] = {"near-9999", "ends", "begins", "slip", "crest", "crest-port"};
+static const char *const LONG[] = {"near-9999", "ends", "begins", "slip", "crest", "crest-odd", "crest-port"};
 
 static int is_long(const char *name)
 {

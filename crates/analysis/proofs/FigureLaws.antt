@@ -7,16 +7,16 @@ use mathlib.Core.Path.{_≡_, sym, _∙_}
 use native.Mathlib.Numerals.{add-one}
 use native.Mathlib.Omega.{arith}
 use borrow.Author.Count.{below-more}
-use lib.ListN.{length, getD, take, set, length-set}
+use lib.ListN.{length, getD, set, length-set}
 use lib.Seq.{getD-set-same, getD-set-other}
 use Rattle.network.specs.Network.{Network}
 use Rattle.network.specs.References.{References}
 use Rattle.network.specs.Ranges.{Ranges}
 use Rattle.station.specs.Station.{offered}
+use Rattle.station.specs.Flat.{flowsIn}
 use Rattle.rows.specs.Ports.{portFlows, portLength, portFigure, jitterOf}
 use Rattle.rows.specs.Refusals.{endless}
-use Rattle.analysis.specs.declared.queues.Flows.{Flows}
-use Rattle.analysis.specs.declared.queues.Outcome.{Outcome}
+use Rattle.analysis.specs.declared.flows.Outcome.{Outcome}
 use Rattle.analysis.specs.Computing.{First, Figures, Jitters}
 use Rattle.analysis.specs.Gathering.{Gathered, Found}
 use Rattle.analysis.proofs.BoundLaws.{port-offered}
@@ -40,11 +40,11 @@ module _ (net : Network) where
   }
 
   -- ---- port p
-  module _ (p : ℕ) (flows : Flows) (all : Gathered (portFlows net (jitterOf net) p) flows) where
-    pub port-accepted : Ranges net → References net → (flows .count ≤ 1024) × (offered (take (flows .count) (flows .flows)) ≡ true)
-    port-accepted ranges refs = (all .few, rw (all .front) (port-offered net ranges refs p))
+  module _ (p : ℕ) (flows : List ℕ) (count : ℕ) (all : Gathered (portFlows net (jitterOf net) p) flows count) where
+    pub port-accepted : Ranges net → References net → (length flows ≡ 3072) × (count ≤ 1024) × (offered (flowsIn flows count) ≡ true)
+    port-accepted ranges refs = (all .long, all .few, rw (all .front) (port-offered net ranges refs p))
 
-    module _ (o : Outcome) (found : Found (take (flows .count) (flows .flows)) o) where
+    module _ (o : Outcome) (found : Found (flowsIn flows count) o) where
       pub found-endless : o .endless ≡ endless net p
       unfolding endless portLength
       found-endless = rw (all .front) at (found .endless-is)

@@ -1,47 +1,49 @@
--- Values gathered one behind the other in an array with room for 1,024: those of the rows passed so far that a test is true of; and one row more.
+-- Flows gathered one behind the other in a list with room for 1,024: those of the rows passed so far that a test is true of; and one row more.
 -- Assumes nothing.
-use Prim.Native.Nat.{ℕ, _+_, _≤_, _<_}
+use Prim.Native.Nat.{ℕ, _+_, _≤_}
 use mathlib.Core.Bool.{Bool, true, false}
 use mathlib.Core.List.{List, [], _∷_, _++_, map}
 use mathlib.Core.Path.{_≡_, refl, sym, ap, ap₂, _∙_}
 use native.Mathlib.Numerals.{add-one}
 use native.Mathlib.Omega.{arith}
-use lib.ListN.{length, take, set, length-set}
-use lib.Seq.{take-suc-set}
-use Rattle.base.specs.Tabulate.{passing}
+use lib.ListN.{length}
+use Rattle.base.specs.Tabulate.{tabulate, passing}
 use Rattle.base.proofs.TabulateLaws.{passing-hit, passing-miss}
+use Rattle.station.specs.declared.Flow.{Flow}
+use Rattle.station.specs.Flat.{flowsIn}
 
 -- of the first n rows those that pass are gathered, `count` of them
-pub record Gathers {A : Type 0} (f : ℕ → A) (p : ℕ → Bool) (n : ℕ) (array : List A) (count : ℕ) : Type 0 where
+pub record Gathers (f : ℕ → Flow) (p : ℕ → Bool) (n : ℕ) (list : List ℕ) (count : ℕ) : Type 0 where
   pub few : count ≤ n
-  pub long : length array ≡ 1024
-  pub front : take count array ≡ map f (passing p n)
+  pub long : length list ≡ 3072
+  pub front : flowsIn list count ≡ map f (passing p n)
 
-module _ {A : Type 0} (f : ℕ → A) (p : ℕ → Bool) where
+module _ (f : ℕ → Flow) (p : ℕ → Bool) where
   map-snoc : (l : List ℕ) (x : ℕ) → map f (l ++ (x ∷ [])) ≡ map f l ++ (f x ∷ [])
   map-snoc [] x = refl
-  map-snoc (y ∷ l) x = ap (λ (r : List A). f y ∷ r) (map-snoc l x)
+  map-snoc (y ∷ l) x = ap (λ (r : List Flow). f y ∷ r) (map-snoc l x)
 
-  pub gather-start : (array : List A) → length array ≡ 1024 → Gathers f p 0 array 0
-  unfolding passing
-  gather-start array h = record { few = omega arith; long = h; front = refl }
+  pub gather-start : (list : List ℕ) → length list ≡ 3072 → Gathers f p 0 list 0
+  unfolding passing flowsIn tabulate
+  gather-start list h = record { few = omega arith; long = h; front = refl }
 
-  module _ (n : ℕ) (array : List A) (count : ℕ) (g : Gathers f p n array count) where
-    -- row n passes: its value is put behind the others
-    pub gather-taken : (x : A) → n < 1024 → p n ≡ true → x ≡ f n → Gathers f p (n + 1) (set array count x) (count + 1)
-    gather-taken x h e is = record {
+  module _ (n : ℕ) (list : List ℕ) (count : ℕ) (g : Gathers f p n list count) where
+    -- row n passes: its flow is put behind the others
+    pub gather-taken : (x : Flow) → p n ≡ true → x ≡ f n → (after : List ℕ) → length after ≡ 3072 → flowsIn after (count + 1) ≡ flowsIn list count ++ (x ∷ [])
+        → Gathers f p (n + 1) after (count + 1)
+    gather-taken x e is after long put = record {
       few = omega (arith, g .few);
-      long = length-set array count x ∙ g .long;
+      long = long;
       front =
-          rw (add-one count, add-one n)
-          (take-suc-set array count x (omega (arith, g .few, g .long))
-          ∙ ap₂ (λ (l : List A) (y : A). l ++ (y ∷ [])) (g .front) is
+          rw (add-one n)
+          (put
+          ∙ ap₂ (λ (l : List Flow) (y : Flow). l ++ (y ∷ [])) (g .front) is
           ∙ sym (map-snoc (passing p n) n)
           ∙ ap (map f) (sym (passing-hit p n e)));
     }
 
     -- it does not
-    pub gather-passed : p n ≡ false → Gathers f p (n + 1) array count
+    pub gather-passed : p n ≡ false → Gathers f p (n + 1) list count
     gather-passed e = record {
       few = omega (arith, g .few);
       long = g .long;

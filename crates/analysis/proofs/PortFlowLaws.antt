@@ -2,7 +2,7 @@
 -- Assumes nothing.
 use Prim.Native.Nat.{ℕ, suc, _+_, _≤_, _<_}
 use mathlib.Core.Bool.{Bool}
-use mathlib.Core.List.{List}
+use mathlib.Core.List.{List, [], _∷_, _++_}
 use mathlib.Core.Logic.{⊎-elim}
 use mathlib.Core.Path.{_≡_, ap, _∙_}
 use native.Mathlib.Nat.{eq-or-lt-of-le, le-of-suc-le-suc}
@@ -15,6 +15,7 @@ use lib.Seq.{getD-set-same, getD-set-other}
 use Rattle.network.specs.Network.{Network, vlAt, hopAt}
 use Rattle.network.specs.References.{hopsOn}
 use Rattle.station.specs.declared.Flow.{Flow}
+use Rattle.station.specs.Flat.{flowsIn}
 use Rattle.rows.specs.Links.{hopMost}
 use Rattle.rows.specs.Ports.{hopFlow, portFlows, jitterOf}
 use Rattle.analysis.specs.declared.sheet.Vl.{Vl}
@@ -31,14 +32,14 @@ onPort net p h = eqb (hopAt net h .port) p
 abbrev NotedBelow : Network → ℕ → List ℕ → ℕ → Type 0
 NotedBelow net p jitters h = (i : ℕ) → i < h → hopAt net i .port ≡ p → getD jitters i 0 ≡ jitterOf net i
 
-pub record Gathering (net : Network) (p h : ℕ) (jitters : List ℕ) (flows : List Flow) (count : ℕ) : Type 0 where
+pub record Gathering (net : Network) (p h : ℕ) (jitters flows : List ℕ) (count : ℕ) : Type 0 where
   pub far : h ≤ length (net .hops)
   pub gathers : Gathers (hopFlow net (jitterOf net)) (onPort net p) h flows count
   pub lower : Jitters net jitters p
   pub here : NotedBelow net p jitters h
 
 module _ (net : Network) (p : ℕ) where
-  pub gathering-none : (jitters : List ℕ) (flows : List Flow) → length flows ≡ 1024 → Jitters net jitters p → Gathering net p 0 jitters flows 0
+  pub gathering-none : (jitters flows : List ℕ) → length flows ≡ 3072 → Jitters net jitters p → Gathering net p 0 jitters flows 0
   gathering-none jitters flows long lower = record {
     far = omega arith;
     gathers = gather-start (hopFlow net (jitterOf net)) (onPort net p) flows long;
@@ -46,7 +47,7 @@ module _ (net : Network) (p : ℕ) where
     here = λ i l. absurd (omega arith);
   }
 
-  module _ (h : ℕ) (jitters : List ℕ) (flows : List Flow) (count : ℕ) (so-far : Gathering net p h jitters flows count) where
+  module _ (h : ℕ) (jitters flows : List ℕ) (count : ℕ) (so-far : Gathering net p h jitters flows count) where
     -- ---- a hop that is on the port: its jitter is noted at its place and its flow behind the others
     module _ (few-hops : length (net .hops) ≤ 1024) (row : h < length (net .hops)) (on : hopAt net h .port ≡ p) (jitter : ℕ) (j : jitter ≡ jitterOf net h) where
       below-kept : (i : ℕ) → i < length (net .hops) → hopAt net i .port < p → getD (set jitters h jitter) i 0 ≡ jitterOf net i
@@ -61,12 +62,12 @@ module _ (net : Network) (p : ℕ) where
       pub gathering-taken :
           (hop : Hop) → IsHop net h hop → (vl : Vl) → IsVl net (hop .vl) vl → (cost : ℕ) → cost ≡ hopMost net h
           → (jitters-now : List ℕ) → jitters-now ≡ set jitters h jitter
-          → (flows-now : List Flow) → flows-now ≡ set flows count (record { period = vl .gap; jitter = jitter; cost = cost })
-          → (count-now : ℕ) → count-now ≡ count + 1 → Gathering net p (h + 1) jitters-now flows-now count-now
+          → (put : List ℕ) → (length put ≡ 3072) × (flowsIn put (count + 1) ≡ flowsIn flows count ++ (record { period = vl .gap; jitter = jitter; cost = cost } ∷ []))
+          → (flows-now : List ℕ) → flows-now ≡ put → (count-now : ℕ) → count-now ≡ count + 1 → Gathering net p (h + 1) jitters-now flows-now count-now
       unfolding hopFlow
-      gathering-taken hop is vl of cost c jitters-now js flows-now fs count-now k = rw (js, fs, k) record {
+      gathering-taken hop is vl of cost c jitters-now js put now flows-now fs count-now k = rw (js, fs, k) record {
         far = omega arith;
-        gathers = gather-taken (hopFlow net (jitterOf net)) (onPort net p) h flows count (so-far .gathers) flow (omega arith) (eq-eqb _ _ on) flow-is;
+        gathers = gather-taken (hopFlow net (jitterOf net)) (onPort net p) h flows count (so-far .gathers) flow (eq-eqb _ _ on) flow-is put (now .0) (now .1);
         lower = record { long = length-set jitters h jitter ∙ so-far .lower .long; jitter-is = below-kept };
         here = noted-more;
       }
@@ -81,7 +82,7 @@ module _ (net : Network) (p : ℕ) where
 
     -- ---- one that is not
     pub gathering-passed :
-        h < length (net .hops) → (hopAt net h .port ≡ p → ⊥) → (jitters-now : List ℕ) → jitters-now ≡ jitters → (flows-now : List Flow) → flows-now ≡ flows
+        h < length (net .hops) → (hopAt net h .port ≡ p → ⊥) → (jitters-now : List ℕ) → jitters-now ≡ jitters → (flows-now : List ℕ) → flows-now ≡ flows
         → (count-now : ℕ) → count-now ≡ count → Gathering net p (h + 1) jitters-now flows-now count-now
     gathering-passed row off jitters-now js flows-now fs count-now k = rw (js, fs, k) record {
       far = omega arith;
@@ -92,11 +93,11 @@ module _ (net : Network) (p : ℕ) where
 
     -- ---- all hops
     module _ (done : length (net .hops) ≤ h) where
-      pub gathered-port : length (net .hops) ≤ 1024 → Gathered (portFlows net (jitterOf net) p) (record { flows = flows; count = count })
+      pub gathered-port : length (net .hops) ≤ 1024 → Gathered (portFlows net (jitterOf net) p) flows count
       unfolding portFlows hopsOn
       gathered-port few-hops =
           let e : h ≡ length (net .hops) = omega (arith, so-far .far) in
-          record { few = omega (arith, so-far .far, so-far .gathers .few); front = rw (← e) (so-far .gathers .front) }
+          record { long = so-far .gathers .long; few = omega (arith, so-far .far, so-far .gathers .few); front = rw (← e) (so-far .gathers .front) }
 
       pub jitters-on-port : Jitters net jitters (suc p)
       jitters-on-port = record {

@@ -3,12 +3,12 @@
 use Prim.Native.Nat.{ℕ, _+_, _-_, _*_, _≤_, _<_}
 use mathlib.Core.Bool.{Bool, true, false, _&&_, not, and-false}
 use mathlib.Core.List.{List}
-use mathlib.Core.Path.{_≡_, sym, ap, _∙_}
+use mathlib.Core.Path.{_≡_, sym, _∙_}
 use native.Mathlib.Omega.{arith}
 use borrow.Author.Count.{below-more}
 use borrow.Author.Tests.{eq-eqb, ne-eqb}
 use lib.Dec.{eqb}
-use lib.ListN.{length, getD, take, set}
+use lib.ListN.{length, getD, set}
 use lib.Seq.{getD-set-same, getD-set-other}
 use Rattle.base.specs.Tests.{isSome}
 use Rattle.base.proofs.LeastLaws.{least-none, least-exists}
@@ -17,13 +17,13 @@ use Rattle.frame.specs.Packets.{packets}
 use Rattle.network.specs.Network.{Network, vlAt, streamAt}
 use Rattle.network.specs.Ranges.{Ranges}
 use Rattle.station.specs.declared.Flow.{Flow}
+use Rattle.station.specs.Flat.{flowsIn}
 use Rattle.rows.specs.Queues.{streamsOn, queueFlow, queueFlows, queueLength, queueFigure}
 use Rattle.rows.specs.Refusals.{endlessSubLink}
 use Rattle.analysis.specs.declared.sheet.Delays.{Delays}
 use Rattle.analysis.specs.declared.sheet.Vl.{Vl}
 use Rattle.analysis.specs.declared.sheet.Stream.{Stream}
-use Rattle.analysis.specs.declared.queues.Flows.{Flows}
-use Rattle.analysis.specs.declared.queues.Outcome.{Outcome}
+use Rattle.analysis.specs.declared.flows.Outcome.{Outcome}
 use Rattle.analysis.specs.Reading.{IsDelays, IsVl, IsStream}
 use Rattle.analysis.specs.Computing.{QueuesOf, Queues}
 use Rattle.analysis.specs.Gathering.{Gathered, Found}
@@ -59,16 +59,16 @@ module _ (net : Network) (v k s : ℕ) (stream : Stream) (is : IsStream net s st
 
 module _ (net : Network) (v k : ℕ) where
   -- all streams are passed
-  pub sub-link-gathered : (n : ℕ) (flows : List Flow) (count : ℕ) → n ≡ length (net .streams) → n ≤ 1024
-      → Gathers (queueFlow net) (onSubLink net v k) n flows count → Gathered (queueFlows net v k) (record { flows = flows; count = count })
+  pub sub-link-gathered : (n : ℕ) (flows : List ℕ) (count : ℕ) → n ≡ length (net .streams) → n ≤ 1024
+      → Gathers (queueFlow net) (onSubLink net v k) n flows count → Gathered (queueFlows net v k) flows count
   unfolding queueFlows streamsOn
-  sub-link-gathered n flows count all few g = record { few = omega (arith, g .few); front = rw (← all) (g .front) }
+  sub-link-gathered n flows count all few g = record { long = g .long; few = omega (arith, g .few); front = rw (← all) (g .front) }
 
   -- what the station found of the flows is the queue
-  pub queue-found : (f : Flows) (o : Outcome) (gap r : ℕ) → Gathered (queueFlows net v k) f → Found (take (f .count) (f .flows)) o → gap ≡ vlAt net v .gap
+  pub queue-found : (flows : List ℕ) (count : ℕ) (o : Outcome) (gap r : ℕ) → Gathered (queueFlows net v k) flows count → Found (flowsIn flows count) o → gap ≡ vlAt net v .gap
       → r ≡ o .figure - gap → (o .endless ≡ not (isSome (queueLength net v k))) × (r ≡ queueFigure net v k)
   unfolding queueLength queueFigure
-  queue-found f o gap r g found same e =
+  queue-found flows count o gap r g found same e =
       (found .endless-is ∙ rw (g .front), e ∙ rw (found .figure-is, g .front, same))
 
 -- ---- a queue without a busy length

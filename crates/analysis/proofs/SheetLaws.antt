@@ -3,7 +3,6 @@
 use Prim.Native.Nat.{ℕ, suc, _+_, _-_, _*_, _≤_, _<_}
 use mathlib.Core.Bool.{true, false}
 use mathlib.Core.List.{List}
-use mathlib.Core.Logic.{⊎-elim}
 use mathlib.Core.Path.{_≡_, sym, ap, _∙_}
 use native.Mathlib.Nat.{mul-le-mul-right}
 use native.Mathlib.Omega.{arith}
@@ -12,7 +11,6 @@ use lib.Seq.{getD-take, getD-drop, length-take-le}
 use Rattle.frame.specs.Tick.{perMs}
 use Rattle.frame.proofs.TickLaws.{per-ms-is}
 use Rattle.network.specs.Network.{systemAt, streamAt, portAt, hopAt}
-use Rattle.network.specs.Ranges.{SpeedRange}
 use Rattle.table.specs.Write.{recordsIn}
 use Rattle.table.specs.Decoded.{numberAt, ticksAt, parentOf}
 use Rattle.table.proofs.DecodedLaws.{send-least, send-greatest, receive-least, receive-greatest, systems-are, vls-are, streams-are, ports-are, hops-are, systems-records, vls-records, streams-records, ports-records, hops-records, system-number, vl-number, stream-number, port-number, hop-number, first-number, system-per-byte, vl-system, vl-gap, vl-sub-links, vl-lmax, stream-vl, stream-sub-link, stream-size, stream-least-size, stream-period, stream-jitter, port-per-byte, port-delay-least, port-delay-greatest, hop-vl, hop-port, hop-parent, parent-none, parent-some}

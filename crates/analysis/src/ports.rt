@@ -1,9 +1,9 @@
 // The jitter of each hop and the figure of each port, ports in order: a hop's jitter needs only its parent's, on a lower port, and that port's figure.
 // Gives 01's answer 10.
+use crate::flows;
+use crate::flows::FLOWS;
 use crate::links;
 use crate::links::less;
-use crate::queues;
-use crate::queues::Flows;
 use crate::sheet;
 use crate::sheet::SHEET;
 use frame::Frame;
@@ -74,22 +74,18 @@ fn hop_jitter(
     jitters[g] + less(figures[port], hop_least(net, g)) + spread
 }
 
-// The flows of port p; notes the jitters of the hops on it.
+// The flows of port p: how many they are; notes the jitters of the hops on it.
 fn port_flows(
     net: &[u64; SHEET],
     waits: &[u64; 256],
     figures: &[u64; 128],
     p: usize,
     jitters: &mut [u64; 1_024],
-) -> Flows
-    requires { ⌜ Good (now net) × Waits (networkOn (now net)) (now waits) × Figures (networkOn (now net)) (now figures) p × Jitters (networkOn (now net)) (now jitters) p ⌝ }
-    ensures { λ r. ⌜ Gathered (portFlows (networkOn (now (net .entry))) (jitterOf (networkOn (now (net .entry)))) p) r × Jitters (networkOn (now (net .entry))) (now (jitters .exit)) (suc p) ⌝ }
+    flows: &mut [u64; FLOWS],
+) -> usize
+    requires { ⌜ Good (now net) × Waits (networkOn (now net)) (now waits) × Figures (networkOn (now net)) (now figures) p × Jitters (networkOn (now net)) (now jitters) p × (length (now flows) ≡ 3072) ⌝ }
+    ensures { λ r. ⌜ Gathered (portFlows (networkOn (now (net .entry))) (jitterOf (networkOn (now (net .entry)))) p) (now (flows .exit)) r × Jitters (networkOn (now (net .entry))) (now (jitters .exit)) (suc p) ⌝ }
 {
-    let mut flows = [Flow {
-        period: 0,
-        jitter: 0,
-        cost: 0,
-    }; 1_024];
     let mut count = 0;
     let n = sheet::hops_in(net);
     let mut h = 0;
@@ -99,19 +95,17 @@ fn port_flows(
             let jitter = hop_jitter(net, waits, figures, jitters, h);
             jitters[h] = jitter;
             let vl = sheet::vl_at(net, hop.vl);
-            flows[count] = Flow {
+            let flow = Flow {
                 period: vl.gap,
                 jitter: jitter,
                 cost: hop_most(net, h),
             };
+            flows::put_flow(flows, count, flow);
             count += 1;
         }
         h += 1;
     }
-    Flows {
-        flows: flows,
-        count: count,
-    }
+    count
 }
 
 // 10: the first port that has no busy length, or their number; notes the figures of the ports before it.
@@ -120,10 +114,12 @@ pub fn all_ports(net: &[u64; SHEET], waits: &[u64; 256], figures: &mut [u64; 128
     ensures { λ r. ⌜ First (endless (networkOn (now (net .entry)))) (length (networkOn (now (net .entry)) .ports)) r × Figures (networkOn (now (net .entry))) (now (figures .exit)) r ⌝ }
 {
     let mut jitters = [0u64; 1_024];
+    let mut flows = [0u64; FLOWS];
     let n = sheet::ports_in(net);
     let mut p = 0;
     while p < n {
-        let o = queues::served(port_flows(net, waits, figures, p, &mut jitters));
+        let count = port_flows(net, waits, figures, p, &mut jitters, &mut flows);
+        let o = flows::served(&flows, count);
         let endless = o.endless;
         if endless {
             return p;

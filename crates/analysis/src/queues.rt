@@ -1,57 +1,25 @@
 // The queue figure of each sub-link, from the flows of its streams.
-// Gives 01's answer 9. Flows of queues and ports alike are held to the station here.
+// Gives 01's answer 9.
+use crate::flows;
+use crate::flows::FLOWS;
+use crate::flows::Outcome;
 use crate::links::less;
 use crate::sheet;
 use crate::sheet::SHEET;
 use frame::Reply;
-use station::Answer;
 use station::Flow;
 ghost use mathlib.Core.Path.{_≡_};
 ghost use mathlib.Core.Bool.{true, false, not};
 ghost use Prim.Native.Nat.{ℕ, _<_, _≤_, _*_, _+_, suc};
-ghost use lib.ListN.{length, getD, take};
+ghost use lib.ListN.{length, getD};
 ghost use Rattle.base.specs.Tests.{isSome};
 ghost use Rattle.frame.specs.Packets as rule;
 ghost use Rattle.network.specs.Network.{vlAt};
-ghost use Rattle.station.specs.Station.{offered};
 ghost use Rattle.rows.specs.Queues.{queueFlow, queueFlows, queueLength, queueFigure};
 ghost use Rattle.rows.specs.Refusals.{endlessSubLink};
 ghost use Rattle.analysis.specs.Sheet.{networkOn, Good};
 ghost use Rattle.analysis.specs.Computing.{First, QueuesOf, Queues};
-ghost use Rattle.analysis.specs.Gathering.{Gathered, Found};
-
-// Flows: the first `count` of them.
-pub struct Flows {
-    pub flows: [Flow; 1_024],
-    pub count: usize,
-}
-
-// What the station says of flows: that they have no busy length, or their figure.
-pub struct Outcome {
-    pub endless: bool,
-    pub figure: u64,
-}
-
-pub fn served(f: Flows) -> Outcome
-    requires { ⌜ (f .count ≤ 1024) × (offered (take (f .count) (f .flows)) ≡ true) ⌝ }
-    ensures { λ r. ⌜ Found (take (f .count) (f .flows)) r ⌝ }
-{
-    let flows = f.flows;
-    match station::station_of(flows, f.count) {
-        Answer::Served { length, figure } => Outcome {
-            endless: false,
-            figure: figure,
-        },
-        Answer::OutOfRange => Outcome {
-            endless: true,
-            figure: 0,
-        },
-        Answer::Endless => Outcome {
-            endless: true,
-            figure: 0,
-        },
-    }
-}
+ghost use Rattle.analysis.specs.Gathering.{Gathered};
 
 // The packets of a message.
 pub fn packets(m: u64, lmax: u64) -> u64
@@ -79,16 +47,11 @@ fn queue_flow(net: &[u64; SHEET], s: usize) -> Flow
     }
 }
 
-// The flows of sub-link k of VL v.
-fn queue_flows(net: &[u64; SHEET], v: usize, k: usize) -> Flows
-    requires { ⌜ Good (now net) ⌝ }
-    ensures { λ r. ⌜ Gathered (queueFlows (networkOn (now (net .entry))) v k) r ⌝ }
+// The flows of sub-link k of VL v: how many they are.
+fn queue_flows(net: &[u64; SHEET], v: usize, k: usize, flows: &mut [u64; FLOWS]) -> usize
+    requires { ⌜ Good (now net) × (length (now flows) ≡ 3072) ⌝ }
+    ensures { λ r. ⌜ Gathered (queueFlows (networkOn (now (net .entry))) v k) (now (flows .exit)) r ⌝ }
 {
-    let mut flows = [Flow {
-        period: 0,
-        jitter: 0,
-        cost: 0,
-    }; 1_024];
     let mut count = 0;
     let n = sheet::streams_in(net);
     let mut s = 0;
@@ -96,24 +59,22 @@ fn queue_flows(net: &[u64; SHEET], v: usize, k: usize) -> Flows
         let stream = sheet::stream_at(net, s);
         if stream.vl == v {
             if stream.sub_link == k {
-                flows[count] = queue_flow(net, s);
+                flows::put_flow(flows, count, queue_flow(net, s));
                 count += 1;
             }
         }
         s += 1;
     }
-    Flows {
-        flows: flows,
-        count: count,
-    }
+    count
 }
 
 // The queue of sub-link k of VL v.
-fn queue(net: &[u64; SHEET], v: usize, k: usize) -> Outcome
-    requires { ⌜ Good (now net) × (v < length (networkOn (now net) .vls)) ⌝ }
-    ensures { λ r. ⌜ (r .endless ≡ not (isSome (queueLength (networkOn (now (net .entry))) v k))) × (r .figure ≡ queueFigure (networkOn (now (net .entry))) v k) ⌝ }
+fn queue(net: &[u64; SHEET], v: usize, k: usize, flows: &mut [u64; FLOWS]) -> Outcome
+    requires { ⌜ Good (now net) × (v < length (networkOn (now net) .vls)) × (length (now flows) ≡ 3072) ⌝ }
+    ensures { λ r. ⌜ (r .endless ≡ not (isSome (queueLength (networkOn (now (net .entry))) v k))) × (r .figure ≡ queueFigure (networkOn (now (net .entry))) v k) × (length (now (flows .exit)) ≡ 3072) ⌝ }
 {
-    let o = served(queue_flows(net, v, k));
+    let count = queue_flows(net, v, k, flows);
+    let o = flows::served(flows, count);
     let vl = sheet::vl_at(net, v);
     Outcome {
         endless: o.endless,
@@ -122,15 +83,20 @@ fn queue(net: &[u64; SHEET], v: usize, k: usize) -> Outcome
 }
 
 // The queues of VL v, up to the first without a busy length: whether there is one.
-fn vl_queues(net: &[u64; SHEET], v: usize, queues: &mut [u64; 1_024]) -> bool
-    requires { ⌜ Good (now net) × (v < length (networkOn (now net) .vls)) × (length (now queues) ≡ 1024) ⌝ }
-    ensures { λ r. ⌜ (r ≡ isSome (endlessSubLink (networkOn (now (net .entry))) v)) × (r ≡ false → QueuesOf (networkOn (now (net .entry))) (now (queues .exit)) v (vlAt (networkOn (now (net .entry))) v .subLinks)) × ((i : ℕ) → i < v * 4 → getD (now (queues .exit)) i 0 ≡ getD (now (queues .entry)) i 0) × (length (now (queues .exit)) ≡ 1024) ⌝ }
+fn vl_queues(
+    net: &[u64; SHEET],
+    v: usize,
+    flows: &mut [u64; FLOWS],
+    queues: &mut [u64; 1_024],
+) -> bool
+    requires { ⌜ Good (now net) × (v < length (networkOn (now net) .vls)) × (length (now flows) ≡ 3072) × (length (now queues) ≡ 1024) ⌝ }
+    ensures { λ r. ⌜ (r ≡ isSome (endlessSubLink (networkOn (now (net .entry))) v)) × (r ≡ false → QueuesOf (networkOn (now (net .entry))) (now (queues .exit)) v (vlAt (networkOn (now (net .entry))) v .subLinks)) × ((i : ℕ) → i < v * 4 → getD (now (queues .exit)) i 0 ≡ getD (now (queues .entry)) i 0) × (length (now (queues .exit)) ≡ 1024) × (length (now (flows .exit)) ≡ 3072) ⌝ }
 {
     let vl = sheet::vl_at(net, v);
     let n = vl.sub_links;
     let mut k = 0;
     while k < n {
-        let o = queue(net, v, k);
+        let o = queue(net, v, k, flows);
         let endless = o.endless;
         if endless {
             return true;
@@ -146,10 +112,11 @@ pub fn all_queues(net: &[u64; SHEET], queues: &mut [u64; 1_024]) -> usize
     requires { ⌜ Good (now net) × (length (now queues) ≡ 1024) ⌝ }
     ensures { λ r. ⌜ First (λ v. isSome (endlessSubLink (networkOn (now (net .entry))) v)) (length (networkOn (now (net .entry)) .vls)) r × Queues (networkOn (now (net .entry))) (now (queues .exit)) r ⌝ }
 {
+    let mut flows = [0u64; FLOWS];
     let n = sheet::vls_in(net);
     let mut v = 0;
     while v < n {
-        if vl_queues(net, v, queues) {
+        if vl_queues(net, v, &mut flows, queues) {
             return v;
         }
         v += 1;

@@ -4,12 +4,8 @@ use frame::Reply;
 use frame::Speed;
 use frame::Tick;
 use station::Answer;
-use station::Flow;
 ghost use mathlib.Core.Path.{_≡_};
-ghost use Prim.Native.Nat.{_*_, _≤_};
-ghost use lib.ListN.{length, take};
 ghost use Rattle.base.specs.Said.{ruled};
-ghost use Rattle.base.specs.Tabulate.{tabulate};
 ghost use Rattle.frame.specs.Reply.{said as replySaid};
 ghost use Rattle.frame.specs.Tick.{sendsInTime};
 ghost use Rattle.frame.specs.Frame.{lineOf, largestLineOf};
@@ -18,7 +14,7 @@ ghost use Rattle.frame.specs.Gap.{gapOf, codeOf, msOf};
 ghost use Rattle.station.specs.Answer.{said as answerSaid};
 ghost use Rattle.endsystem.specs.Answers.{ruleSaid, stationSaid};
 ghost use Rattle.endsystem.specs.Speeds.{perByteAt};
-ghost use Rattle.endsystem.specs.Flat.{flowIn, flatSays};
+ghost use Rattle.endsystem.specs.Flat.{flatSays};
 
 // ---- the frame rule
 
@@ -158,40 +154,13 @@ fn station_told(answer: Answer) -> StationAnswer
     }
 }
 
-// The first n flows of a flat slice.
-fn flows_in(flows: &[u64], n: usize) -> [Flow; 1_024]
-    requires { ⌜ (n ≤ 1024) × (n * 3 ≤ length (now flows)) ⌝ }
-    ensures { λ r. ⌜ take n r ≡ tabulate (flowIn (now (flows .entry))) n ⌝ }
-{
-    let mut a = [Flow {
-        period: 0,
-        jitter: 0,
-        cost: 0,
-    }; 1_024];
-    let mut i = 0;
-    while i < n {
-        let f = Flow {
-            period: flows[i * 3],
-            jitter: flows[i * 3 + 1],
-            cost: flows[i * 3 + 2],
-        };
-        a[i] = f;
-        i += 1;
-    }
-    a
-}
-
 // The station of a flat slice of flows: three numbers a flow, its period, its jitter and its cost.
 #[no_mangle]
 pub extern "C" fn avulgjesh_station(flows: &[u64]) -> StationAnswer
     ensures { λ r. ⌜ stationSaid r ≡ flatSays (now (flows .entry)) ⌝ }
 {
-    let n = flows.len() / 3;
     if flows.len() % 3 != 0 {
         return station_told(Answer::OutOfRange);
     }
-    if 1_024 < n {
-        return station_told(Answer::OutOfRange);
-    }
-    station_told(station::station_of(flows_in(flows, n), n))
+    station_told(station::station_in(flows, flows.len() / 3))
 }

@@ -1,25 +1,26 @@
 -- The search over a list of flows: their sum is a function of the span that grows with it, so what the search finds for any such function is 01's busy length and figure.
 -- Assumes nothing.
-use Prim.Native.Nat.{ℕ, _+_, _-_, _≤_, _<_, _^_}
+use Prim.Native.Nat.{ℕ, _-_, _≤_, _<_, _^_}
 use mathlib.Core.Bool.{Bool, true, false, true≢false}
 use mathlib.Core.List.{List, [], _∷_}
-use mathlib.Core.Option.{Option, none, some}
+use mathlib.Core.Option.{none, some}
 use mathlib.Core.Path.{_≡_, refl, sym, ap, ap₂, subst, _∙_}
 use native.Mathlib.Omega.{arith}
 use lib.ListN.{length}
 use Rattle.base.specs.Said.{refused}
 use Rattle.station.specs.declared.Flow.{Flow}
-use Rattle.station.specs.declared.Tally.{Tally}
-use Rattle.station.specs.declared.Best.{Best}
-use Rattle.station.specs.declared.Search.{Search}
+use Rattle.station.specs.declared.tally.Tally.{Tally}
+use Rattle.station.specs.declared.search.Best.{Best}
+use Rattle.station.specs.declared.search.Search.{Search}
 use Rattle.station.specs.declared.Answer.{Answer}
 use Rattle.station.specs.declared.Answer.the-variants.{Served, OutOfRange, Endless}
 use Rattle.station.specs.Station.{brought, limit, mostFlows, busyLength, allInRange, servedSays, stationSays}
 use Rattle.station.specs.Answer.{said}
-use Rattle.station.specs.Spans.{leastLength, leastSpan}
+use Rattle.station.specs.Spans.{leastLength}
 use Rattle.station.specs.Searching.{Tallied, Passed, Answers, Stage, State, Searching, Turned, Searched, Over, SearchingOver, leftOf, left}
 use Rattle.station.proofs.FlowLaws.{periodic, brought-mono, last-le, last-same}
 use Rattle.station.proofs.SpanLaws.{length-was}
+use Rattle.station.proofs.EvenLaws.{even-brought}
 use Rattle.station.proofs.StationLaws.{busy-length, figure-excess, says-many, says-unfair, says-served}
 use Rattle.station.proofs.Turns.{rising-start}
 
@@ -75,7 +76,7 @@ module _ (fs : List Flow) (ok : allInRange fs ≡ true) (few : length fs ≤ mos
     where
       low : (b : Bool) → s .rising ≡ b → Stage b (brought fs) s → s .d < limit
       low true e st = st .0 .low
-      low false e st = omega (arith, st .1, length-was (brought fs) (s .length) (st .0) .in-limit)
+      low false e st = omega (arith, st .1 .low, st .1 .enough .no-longer, length-was (brought fs) (s .length) (st .0) .in-limit)
 
       go : (b : Bool) → s .going ≡ b → SearchingOver fs s
       go true e = let st = subst (λ (y : Bool). State y (brought fs) s) e h in subst (λ (y : Bool). Over y fs s) (sym e) (few, low (s .rising) refl st, λ _. h)
@@ -86,7 +87,7 @@ pub begun-many : (fs : List Flow) (r : Search) → (r .going ≡ false) × (r .a
 begun-many fs r e h =
     subst (λ (y : Bool). Over y fs r) (sym (e .0)) (searched-unfair fs r (e .1) (says-many fs h) (λ ok few. absurd (omega arith)))
 
-pub begun-few : (fs : List Flow) → length fs ≤ mostFlows → (best : Best) → Over true fs (record { going = true; rising = true; d = 0; length = 0; best = best; answer = OutOfRange })
+pub begun-few : (fs : List Flow) → length fs ≤ mostFlows → (best : Best) → Over true fs (record { going = true; rising = true; d = 0; length = 0; best = best; answer = OutOfRange; even = false })
 begun-few fs few best = (few, rising-start (brought fs) .low, λ _. (rising-start (brought fs), λ l. absurd (omega arith)))
 
 -- ---- a search that goes on
@@ -106,7 +107,8 @@ module _ (fs : List Flow) (s : Search) (going : s .going ≡ true) (h : Searchin
       go : (b : Bool) → t .fair ≡ b → SearchingOver fs r × (left r < left s)
       go true e =
           let ok : allInRange fs ≡ true = sym (is .fair) ∙ e in
-          let z = u .fair e going (brought fs) (brought-mono fs (periodic fs ok)) (stands .2 ok) (tallied-passed fs (s .d) is e) in
+          let z = u .fair e going (brought fs) (brought-mono fs (periodic fs ok)) (stands .2 ok) (tallied-passed fs (s .d) is e)
+          (λ first even. even-brought fs (periodic fs ok) (sym (is .sums e .even first) ∙ even)) in
           (searching-over fs ok over-few r (z .0), z .1)
       go false e =
           let z = u .unfair e in

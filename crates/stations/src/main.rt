@@ -1,187 +1,12 @@
-// Stations built by formula, as in bench/stations.h: prints the busy length and the figure of each.
-ghost use Prim.Native.Nat.{_<_};
+// Stations built by formula: prints the busy length and the figure of each.
+// Those of bench/stations.h that run for seconds are left out.
+mod plan;
+
 use libc::STDOUT_FILENO;
+use plan::Group;
+use plan::Mix;
+use plan::Plan;
 use station::Answer;
-use station::Flow;
-
-// Flows of one period. All of them bring one at tick 0. The second of flow j comes at tick (first + j * gap) mod period, or a whole period later where that is 0: so the jitter is what is left of the period then, and `rounds` periods more bring as many others at tick 0. The cost is one more for the first `more` of them.
-struct Group {
-    count: usize,
-    period: u64,
-    first: u64,
-    gap: u64,
-    cost: u64,
-    more: usize,
-    rounds: u64,
-}
-
-// Flows by a generator of numbers. Where `base` is 0, those of a port: gaps of 12,500 * 2^code, costs of 84 to 84 + spread. Else those of a queue: periods from `base` on in steps, and 1 to 1 + spread packets of a gap of 12,500 ticks.
-struct Mix {
-    seed: u64,
-    low: u64,
-    spread: u64,
-    base: u64,
-    step: u64,
-}
-
-// A mix where it has a seed, else groups one after the other.
-struct Plan {
-    one: Group,
-    two: Group,
-    three: Group,
-    mix: Mix,
-}
-
-// ---- numbers that stay small
-
-fn less(a: u64, b: u64) -> u64 {
-    if a < b {
-        return 0;
-    }
-    a - b
-}
-
-// The remainder, where m is below 2^32.
-fn rest(a: u64, m: u64) -> u64
-    ensures { λ r. ⌜ r < 4294967296 ⌝ }
-{
-    if m == 0 {
-        return 0;
-    }
-    a % m % 4_294_967_296
-}
-
-// The product, where a is below 2^16 and b below 2^32.
-fn times(a: u64, b: u64) -> u64
-    ensures { λ r. ⌜ r < 281474976710656 ⌝ }
-{
-    a % 65_536 * (b % 4_294_967_296)
-}
-
-// ---- a flow of a group
-
-fn jitter(g: Group, j: usize) -> u64 {
-    let period = g.period;
-    let second = rest(
-        g.first % 4_294_967_296 + times((j % 1_024) as u64, g.gap),
-        period,
-    );
-    times(g.rounds, period) + rest(less(period, second), period)
-}
-
-fn cost(g: Group, j: usize) -> u64 {
-    let c = g.cost % 4_294_967_296;
-    if j < g.more {
-        return c + 1;
-    }
-    c
-}
-
-fn of_group(g: Group, j: usize) -> Flow {
-    Flow {
-        period: g.period,
-        jitter: jitter(g, j),
-        cost: cost(g, j),
-    }
-}
-
-fn of_groups(p: Plan, i: usize) -> Flow {
-    let one = p.one;
-    let two = p.two;
-    let three = p.three;
-    let n = one.count;
-    let m = two.count;
-    if i < n {
-        return of_group(one, i);
-    }
-    let j = i - n;
-    if j < m {
-        return of_group(two, j);
-    }
-    of_group(three, j - m)
-}
-
-// ---- a flow of a mix
-
-fn next(x: u64) -> u64 {
-    (x % 4_294_967_296 * 1_664_525 + 1_013_904_223) % 4_294_967_296
-}
-
-fn high(x: u64) -> u64 {
-    x / 65_536
-}
-
-const GAPS: [u64; 8] = [
-    12_500,
-    25_000,
-    50_000,
-    100_000,
-    200_000,
-    400_000,
-    800_000,
-    1_600_000,
-];
-
-fn gap_code(i: usize, a: u64, low: u64) -> u64 {
-    if i % 128 == 0 {
-        return (i / 128 % 8) as u64;
-    }
-    low % 8 + rest(high(a), 8 - low % 8)
-}
-
-fn gap_of(code: u64) -> u64 {
-    let at = (code % 8) as usize;
-    GAPS[at]
-}
-
-// x is the generator's last number: a flow takes the next three.
-fn of_mix(m: Mix, i: usize, x: u64) -> Flow {
-    let a = next(x);
-    let b = next(a);
-    let c = next(b);
-    let base = m.base % 4_294_967_296;
-    let by = rest(high(b), m.spread % 65_536 + 1);
-    if base == 0 {
-        return Flow {
-            period: gap_of(gap_code(i, a, m.low)),
-            jitter: high(c),
-            cost: 84 + by,
-        };
-    }
-    Flow {
-        period: base + times(high(a), m.step),
-        jitter: high(c),
-        cost: 12_500 * (1 + by),
-    }
-}
-
-// ---- a station
-
-fn of_plan(p: Plan, i: usize, x: u64) -> Flow {
-    let mix = p.mix;
-    if mix.seed == 0 {
-        return of_groups(p, i);
-    }
-    of_mix(mix, i, x)
-}
-
-fn built(p: Plan) -> [Flow; 1_024] {
-    let mut a = [Flow {
-        period: 0,
-        jitter: 0,
-        cost: 0,
-    }; 1_024];
-    let mix = p.mix;
-    let mut x = mix.seed;
-    let mut i = 0;
-    while i < 1_024 {
-        let f = of_plan(p, i, x);
-        a[i] = f;
-        x = next(next(next(x)));
-        i += 1;
-    }
-    a
-}
 
 fn show(a: Answer) {
     match a {
@@ -202,7 +27,8 @@ fn show(a: Answer) {
 
 // The first n flows of a plan.
 fn run(n: usize, p: Plan) {
-    show(station::station_of(built(p), n));
+    let list = plan::built(p);
+    show(station::station_in(&list, n));
 }
 
 fn flows(

@@ -5,14 +5,8 @@ use borrow.Author.Needs.{needs}
 use Rattle.endsystem.proofs.avulgjesh_gap_of.Statement.{statement}
 use Rattle.endsystem.proofs.avulgjesh_gap_of.Tie as tie
 
-gap-of-requires : tie.Need-gap-of-requires
-gap-of-requires c κs = search needs
-
-told-requires : tie.Need-told-requires
-told-requires c κs = search needs
-
 returns : tie.Need-returns
 returns c = c .told .ensures ∙ c .before .gap-of .ensures
 
 pub avulgjesh-gap-of-spec : {M : Type 1} → statement M
-avulgjesh-gap-of-spec = tie.close (tie.spec gap-of-requires told-requires returns)
+avulgjesh-gap-of-spec = tie.close (tie.spec (λ c κs. search needs) (λ c κs. search needs) returns)

@@ -5,14 +5,8 @@ use borrow.Author.Needs.{needs}
 use Rattle.endsystem.proofs.avulgjesh_largest_line.Statement.{statement}
 use Rattle.endsystem.proofs.avulgjesh_largest_line.Tie as tie
 
-largest-line-requires : tie.Need-largest-line-requires
-largest-line-requires c κs = search needs
-
-told-requires : tie.Need-told-requires
-told-requires c κs = search needs
-
 returns : tie.Need-returns
 returns c = c .told .ensures ∙ c .before .largest-line .ensures
 
 pub avulgjesh-largest-line-spec : {M : Type 1} → statement M
-avulgjesh-largest-line-spec = tie.close (tie.spec largest-line-requires told-requires returns)
+avulgjesh-largest-line-spec = tie.close (tie.spec (λ c κs. search needs) (λ c κs. search needs) returns)

@@ -5,14 +5,8 @@ use borrow.Author.Needs.{needs}
 use Rattle.endsystem.proofs.avulgjesh_line_of.Statement.{statement}
 use Rattle.endsystem.proofs.avulgjesh_line_of.Tie as tie
 
-line-of-requires : tie.Need-line-of-requires
-line-of-requires c κs = search needs
-
-told-requires : tie.Need-told-requires
-told-requires c κs = search needs
-
 returns : tie.Need-returns
 returns c = c .told .ensures ∙ c .before .line-of .ensures
 
 pub avulgjesh-line-of-spec : {M : Type 1} → statement M
-avulgjesh-line-of-spec = tie.close (tie.spec line-of-requires told-requires returns)
+avulgjesh-line-of-spec = tie.close (tie.spec (λ c κs. search needs) (λ c κs. search needs) returns)

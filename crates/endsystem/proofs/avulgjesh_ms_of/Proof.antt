@@ -5,14 +5,8 @@ use borrow.Author.Needs.{needs}
 use Rattle.endsystem.proofs.avulgjesh_ms_of.Statement.{statement}
 use Rattle.endsystem.proofs.avulgjesh_ms_of.Tie as tie
 
-ms-of-requires : tie.Need-ms-of-requires
-ms-of-requires c κs = search needs
-
-told-requires : tie.Need-told-requires
-told-requires c κs = search needs
-
 returns : tie.Need-returns
 returns c = c .told .ensures ∙ c .before .ms-of .ensures
 
 pub avulgjesh-ms-of-spec : {M : Type 1} → statement M
-avulgjesh-ms-of-spec = tie.close (tie.spec ms-of-requires told-requires returns)
+avulgjesh-ms-of-spec = tie.close (tie.spec (λ c κs. search needs) (λ c κs. search needs) returns)

@@ -5,14 +5,8 @@ use borrow.Author.Needs.{needs}
 use Rattle.endsystem.proofs.avulgjesh_packets_of.Statement.{statement}
 use Rattle.endsystem.proofs.avulgjesh_packets_of.Tie as tie
 
-packets-of-requires : tie.Need-packets-of-requires
-packets-of-requires c κs = search needs
-
-told-requires : tie.Need-told-requires
-told-requires c κs = search needs
-
 returns : tie.Need-returns
 returns c = c .told .ensures ∙ c .before .packets-of .ensures
 
 pub avulgjesh-packets-of-spec : {M : Type 1} → statement M
-avulgjesh-packets-of-spec = tie.close (tie.spec packets-of-requires told-requires returns)
+avulgjesh-packets-of-spec = tie.close (tie.spec (λ c κs. search needs) (λ c κs. search needs) returns)

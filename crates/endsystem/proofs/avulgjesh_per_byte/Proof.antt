@@ -9,21 +9,6 @@ use Rattle.endsystem.proofs.SpeedLaws.{at-100, at-10, at-other}
 use Rattle.endsystem.proofs.avulgjesh_per_byte.Statement.{statement}
 use Rattle.endsystem.proofs.avulgjesh_per_byte.Tie as tie
 
-per-byte-requires : tie.Need-per-byte-requires
-per-byte-requires c κs = search needs
-
-told-requires : tie.Need-told-requires
-told-requires c κs = search needs
-
-per-byte-requires-2 : tie.Need-per-byte-requires-2
-per-byte-requires-2 c κs = search needs
-
-told-requires-2 : tie.Need-told-requires-2
-told-requires-2 c κs = search needs
-
-told-requires-3 : tie.Need-told-requires-3
-told-requires-3 c κs = search needs
-
 returns : tie.Need-returns
 returns c = c .told .ensures ∙ gives _ _ (at-100 _ (omega arith) ∙ ap some (sym (c .before .per-byte .ensures)))
 
@@ -37,11 +22,11 @@ pub avulgjesh-per-byte-spec : {M : Type 1} → statement M
 avulgjesh-per-byte-spec =
     tie.close
     (tie.spec
-    per-byte-requires
-    told-requires
-    per-byte-requires-2
-    told-requires-2
-    told-requires-3
+    (λ c κs. search needs)
+    (λ c κs. search needs)
+    (λ c κs. search needs)
+    (λ c κs. search needs)
+    (λ c κs. search needs)
     returns
     returns-2
     returns-3)

@@ -7,15 +7,6 @@ use Rattle.endsystem.specs.Answers.{stationSaid}
 use Rattle.endsystem.proofs.station_told.Statement.{statement}
 use Rattle.endsystem.proofs.station_told.Tie as tie
 
-enum-known-answer : tie.Need-enum-known-answer
-enum-known-answer c = search needs
-
-enum-told : tie.Need-enum-told
-enum-told c = search needs
-
-enum-told-2 : tie.Need-enum-told-2
-enum-told-2 c = search needs
-
 returns : tie.Need-returns
 unfolding stationSaid said
 returns c = sym (ap said (c .before .answer .given .1))
@@ -30,4 +21,4 @@ returns-3 c = sym (ap said (c .enum-told2 .given .1))
 
 pub station-told-spec : {M : Type 1} → statement M
 station-told-spec =
-    tie.close (tie.spec enum-known-answer enum-told enum-told-2 returns returns-2 returns-3)
+    tie.close (tie.spec (λ c. search needs) (λ c. search needs) (λ c. search needs) returns returns-2 returns-3)

@@ -7,12 +7,6 @@ use Rattle.endsystem.specs.Answers.{ruleSaid}
 use Rattle.endsystem.proofs.told.Statement.{statement}
 use Rattle.endsystem.proofs.told.Tie as tie
 
-enum-known-reply : tie.Need-enum-known-reply
-enum-known-reply c = search needs
-
-enum-told : tie.Need-enum-told
-enum-told c = search needs
-
 returns : tie.Need-returns
 unfolding ruleSaid said
 returns c = sym (ap said (c .before .reply .given .1))
@@ -22,4 +16,4 @@ unfolding ruleSaid said
 returns-2 c = sym (ap said (c .enum-told .given .1))
 
 pub told-spec : {M : Type 1} → statement M
-told-spec = tie.close (tie.spec enum-known-reply enum-told returns returns-2)
+told-spec = tie.close (tie.spec (λ c. search needs) (λ c. search needs) returns returns-2)

@@ -31,18 +31,6 @@ accepted-there c =
     let same = ap (λ (a : Answer). a .number) (checked .check .ensures) in
     read-accepted (start-at checked .args .table .now) (omega arith)
 
-clear-requires : tie.Need-clear-requires
-clear-requires c κs = search needs
-
-check-requires : tie.Need-check-requires
-check-requires c κs = search needs
-
-refused-requires : tie.Need-refused-requires
-refused-requires c κs = search needs
-
-same-length : tie.Need-same-length
-same-length c = search needs
-
 returns : tie.Need-returns
 returns c =
     let checked = c .before .before in
@@ -58,9 +46,6 @@ judge-requires c κs =
     let checked = checked-at loaded in
     (loaded .load .ensures .1, cleared-is _ (length (start-at checked .args .result .now)) (cleared-at checked .clear .ensures))
 
-same-length-2 : tie.Need-same-length-2
-same-length-2 c = search needs
-
 returns-2 : tie.Need-returns-2
 returns-2 c =
     let judged = c .before .before in
@@ -73,12 +58,12 @@ pub analyse-spec : {M : Type 1} → statement M
 analyse-spec =
     tie.close
     (tie.spec
-    clear-requires
-    check-requires
-    refused-requires
-    same-length
+    (λ c κs. search needs)
+    (λ c κs. search needs)
+    (λ c κs. search needs)
+    (λ c. search needs)
     returns
     load-requires
     judge-requires
-    same-length-2
+    (λ c. search needs)
     returns-2)

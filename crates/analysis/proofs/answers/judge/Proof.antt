@@ -48,30 +48,12 @@ past-8 c =
 past-9 : (c : tie.Else4) → answer9 (net (past-7-at (past-8-at (c .before) .before .before) .before)) ≡ none
 past-9 c = none-9 (net (past-7-at (past-8-at (c .before) .before .before) .before)) _ (c .before .before .all-queues .ensures .0) (omega arith)
 
-late-system-requires : tie.Need-late-system-requires
-late-system-requires c κs = search needs
-
-systems-in-requires : tie.Need-systems-in-requires
-systems-in-requires c κs = search needs
-
-refuse-requires : tie.Need-refuse-requires
-refuse-requires c κs = search needs
-
 returns : tie.Need-returns
 returns c =
     let first = c .before .before in
     let n = net first in
     let e = judged-7 n (room first) _ (given-7 n _ (first .before .late-system .ensures) (omega arith)) in
     judged-refuses n (room first) _ _ _ e (omega arith) (c .refuse .ensures) (start-at first .pre .1)
-
-leaves-requires : tie.Need-leaves-requires
-leaves-requires c κs = search needs
-
-row-count-requires : tie.Need-row-count-requires
-row-count-requires c κs = search needs
-
-refuse-requires-2 : tie.Need-refuse-requires-2
-refuse-requires-2 c κs = search needs
 
 returns-2 : tie.Need-returns-2
 returns-2 c =
@@ -82,12 +64,6 @@ returns-2 c =
     let e = judged-8 n (room first) _ (past-7 past) (given-8-many n (room first) (omega (arith, rows .row-count .ensures .0))) in
     judged-refuses n (room first) _ _ _ e (omega arith) (c .refuse2 .ensures) (start-at first .pre .1)
 
-mul-if3 : tie.Need-mul-if3
-mul-if3 c = search needs
-
-refuse-requires-3 : tie.Need-refuse-requires-3
-refuse-requires-3 c κs = search needs
-
 returns-3 : tie.Need-returns-3
 returns-3 c =
     let rows = c .before .before .before in
@@ -96,15 +72,6 @@ returns-3 c =
     let n = net first in
     let e = judged-8 n (room first) _ (past-7 past) (given-8-short n (room first) (omega (arith, rows .row-count .ensures .0)) (omega (arith, rows .row-count .ensures .0))) in
     judged-refuses n (room first) _ _ _ e (omega arith) (c .refuse3 .ensures) (start-at first .pre .1)
-
-all-queues-requires : tie.Need-all-queues-requires
-all-queues-requires c κs = search needs
-
-vls-in-requires : tie.Need-vls-in-requires
-vls-in-requires c κs = search needs
-
-refuse-requires-4 : tie.Need-refuse-requires-4
-refuse-requires-4 c κs = search needs
 
 returns-4 : tie.Need-returns-4
 returns-4 c =
@@ -115,18 +82,6 @@ returns-4 c =
     let n = net first in
     let e = judged-9 n (room first) _ (past-7 past) (past-8 fits) (given-9 n _ (vls .before .all-queues .ensures .0) (omega arith)) in
     judged-refuses n (room first) _ _ _ e (omega arith) (c .refuse4 .ensures) (start-at first .pre .1)
-
-mux-waits-requires : tie.Need-mux-waits-requires
-mux-waits-requires c κs = search needs
-
-all-ports-requires : tie.Need-all-ports-requires
-all-ports-requires c κs = search needs
-
-ports-in-requires : tie.Need-ports-in-requires
-ports-in-requires c κs = search needs
-
-refuse-requires-5 : tie.Need-refuse-requires-5
-refuse-requires-5 c κs = search needs
 
 returns-5 : tie.Need-returns-5
 returns-5 c =
@@ -155,12 +110,6 @@ put-rows-requires c κs =
       record { zero-before = start-at first .pre .1; fits = omega (arith, rows .row-count .ensures .0) },
     )
 
-accept-requires : tie.Need-accept-requires
-accept-requires c κs = search needs
-
-same-length : tie.Need-same-length
-same-length c = search needs
-
 returns-6 : tie.Need-returns-6
 returns-6 c =
     let served = past-10-at (c .before .before .before .before) in
@@ -177,27 +126,27 @@ pub judge-spec : {M : Type 1} → statement M
 judge-spec =
     tie.close
     (tie.spec
-    late-system-requires
-    systems-in-requires
-    refuse-requires
+    (λ c κs. search needs)
+    (λ c κs. search needs)
+    (λ c κs. search needs)
     returns
-    leaves-requires
-    row-count-requires
-    refuse-requires-2
+    (λ c κs. search needs)
+    (λ c κs. search needs)
+    (λ c κs. search needs)
     returns-2
-    mul-if3
-    refuse-requires-3
+    (λ c. search needs)
+    (λ c κs. search needs)
     returns-3
-    all-queues-requires
-    vls-in-requires
-    refuse-requires-4
+    (λ c κs. search needs)
+    (λ c κs. search needs)
+    (λ c κs. search needs)
     returns-4
-    mux-waits-requires
-    all-ports-requires
-    ports-in-requires
-    refuse-requires-5
+    (λ c κs. search needs)
+    (λ c κs. search needs)
+    (λ c κs. search needs)
+    (λ c κs. search needs)
     returns-5
     put-rows-requires
-    accept-requires
-    same-length
+    (λ c κs. search needs)
+    (λ c. search needs)
     returns-6)

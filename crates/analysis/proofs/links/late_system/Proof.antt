@@ -18,28 +18,13 @@ Inv-loop net n e₀ e = (e ≤ n) × ((k : ℕ) → k < e → sendsLate (network
 abbrev μ-loop : tie.MeasureT-loop
 μ-loop net n e₀ e = n - e
 
-systems-in-requires : tie.Need-systems-in-requires Inv-loop μ-loop
-systems-in-requires c κs = search needs
-
 loop-holds : tie.Need-loop-holds Inv-loop μ-loop
 loop-holds c = (omega arith, (λ k l. absurd (omega arith)))
-
-send-sum-requires : tie.Need-send-sum-requires Inv-loop μ-loop
-send-sum-requires c κs = search needs
-
-sends-in-time-requires : tie.Need-sends-in-time-requires Inv-loop μ-loop
-sends-in-time-requires c κs = search needs
 
 returns : tie.Need-returns Inv-loop μ-loop
 returns c =
     let l = c .before .before .before .before .loop in
     record { inside = omega arith; before = l .inv .1; there = λ h. late-is _ (l .e) _ _ _ (c .before .before .send-sum .ensures) (c .before .sends-in-time .ensures) (c .if1 .taken) }
-
-add-e : tie.Need-add-e Inv-loop μ-loop
-add-e c = search needs
-
-loop-less : tie.Need-loop-less Inv-loop μ-loop
-loop-less c = search needs
 
 loop-again : tie.Need-loop-again Inv-loop μ-loop
 loop-again c =
@@ -56,12 +41,12 @@ late-system-spec =
     (tie.spec
     Inv-loop
     μ-loop
-    systems-in-requires
+    (λ c κs. search needs)
     loop-holds
-    send-sum-requires
-    sends-in-time-requires
+    (λ c κs. search needs)
+    (λ c κs. search needs)
     returns
-    add-e
-    loop-less
+    (λ c. search needs)
+    (λ c. search needs)
     loop-again
     returns-2)

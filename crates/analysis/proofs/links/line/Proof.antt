@@ -8,15 +8,6 @@ use borrow.Author.Needs.{needs}
 use Rattle.analysis.proofs.links.line.Statement.{statement}
 use Rattle.analysis.proofs.links.line.Tie as tie
 
-largest-line-requires : tie.Need-largest-line-requires
-largest-line-requires c κs = search needs
-
-enum-known-bytes : tie.Need-enum-known-bytes
-enum-known-bytes c = search needs
-
-enum-told : tie.Need-enum-told
-enum-told c = search needs
-
 returns : tie.Need-returns
 returns c =
     let start = c .before .before .before .before in
@@ -34,4 +25,4 @@ returns-2 c =
     absurd (never-refused (largestLineOf lmax) (largestLine lmax) given _ (c .before .before .largest-line .ensures) (c .enum-told .given .1))
 
 pub line-spec : {M : Type 1} → statement M
-line-spec = tie.close (tie.spec largest-line-requires enum-known-bytes enum-told returns returns-2)
+line-spec = tie.close (tie.spec (λ c κs. search needs) (λ c. search needs) (λ c. search needs) returns returns-2)

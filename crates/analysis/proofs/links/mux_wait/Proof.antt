@@ -6,14 +6,8 @@ use borrow.Author.Needs.{needs}
 use Rattle.analysis.proofs.links.mux_wait.Statement.{statement}
 use Rattle.analysis.proofs.links.mux_wait.Tie as tie
 
-vl-at-requires : tie.Need-vl-at-requires
-vl-at-requires c κs = search needs
-
-sum-without-requires : tie.Need-sum-without-requires
-sum-without-requires c κs = search needs
-
 returns : tie.Need-returns
 returns c = (c .sum-without .ensures .0 ∙ rw (c .before .vl-at .ensures .system) (sym (mux-wait-is _ _)), c .sum-without .ensures .1)
 
 pub mux-wait-spec : {M : Type 1} → statement M
-mux-wait-spec = tie.close (tie.spec vl-at-requires sum-without-requires returns)
+mux-wait-spec = tie.close (tie.spec (λ c κs. search needs) (λ c κs. search needs) returns)

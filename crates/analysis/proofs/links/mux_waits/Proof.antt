@@ -18,26 +18,8 @@ Inv-loop net waits₀ n v₀ waits v = (v ≤ n) × (length waits ≡ 256) × ((
 abbrev μ-loop : tie.MeasureT-loop
 μ-loop net waits₀ n v₀ waits v = n - v
 
-vls-in-requires : tie.Need-vls-in-requires Inv-loop μ-loop
-vls-in-requires c κs = search needs
-
 loop-holds : tie.Need-loop-holds Inv-loop μ-loop
 loop-holds c = (omega arith, refl, (λ k l. absurd (omega arith)))
-
-mux-wait-requires : tie.Need-mux-wait-requires Inv-loop μ-loop
-mux-wait-requires c κs = search needs
-
-mul-waits : tie.Need-mul-waits Inv-loop μ-loop
-mul-waits c = search needs
-
-array-write-waits : tie.Need-array-write-waits Inv-loop μ-loop
-array-write-waits c = search needs
-
-add-v : tie.Need-add-v Inv-loop μ-loop
-add-v c = search needs
-
-loop-less : tie.Need-loop-less Inv-loop μ-loop
-loop-less c = search needs
 
 loop-again : tie.Need-loop-again Inv-loop μ-loop
 loop-again c =
@@ -60,12 +42,12 @@ mux-waits-spec =
     (tie.spec
     Inv-loop
     μ-loop
-    vls-in-requires
+    (λ c κs. search needs)
     loop-holds
-    mux-wait-requires
-    mul-waits
-    array-write-waits
-    add-v
-    loop-less
+    (λ c κs. search needs)
+    (λ c. search needs)
+    (λ c. search needs)
+    (λ c. search needs)
+    (λ c. search needs)
     loop-again
     returns)

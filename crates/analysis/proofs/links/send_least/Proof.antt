@@ -7,19 +7,10 @@ use borrow.Author.Needs.{needs}
 use Rattle.analysis.proofs.links.send_least.Statement.{statement}
 use Rattle.analysis.proofs.links.send_least.Tie as tie
 
-vl-at-requires : tie.Need-vl-at-requires
-vl-at-requires c κs = search needs
-
-system-byte-requires : tie.Need-system-byte-requires
-system-byte-requires c κs = search needs
-
-mul-result : tie.Need-mul-result
-mul-result c = search needs
-
 returns : tie.Need-returns
 unfolding sendLine
 returns c =
     (rw (c .system-byte .ensures .0, c .before .vl-at .ensures .system, least-line-is), omega arith)
 
 pub send-least-spec : {M : Type 1} → statement M
-send-least-spec = tie.close (tie.spec vl-at-requires system-byte-requires mul-result returns)
+send-least-spec = tie.close (tie.spec (λ c κs. search needs) (λ c κs. search needs) (λ c. search needs) returns)

@@ -8,15 +8,6 @@ use borrow.Author.Needs.{needs}
 use Rattle.analysis.proofs.links.send_most.Statement.{statement}
 use Rattle.analysis.proofs.links.send_most.Tie as tie
 
-vl-at-requires : tie.Need-vl-at-requires
-vl-at-requires c κs = search needs
-
-line-requires : tie.Need-line-requires
-line-requires c κs = search needs
-
-system-byte-requires : tie.Need-system-byte-requires
-system-byte-requires c κs = search needs
-
 at-most : (c : tie.After-system-byte) → c .before .line .result * c .system-byte .result ≤ 15380
 at-most c = mul-le-mul (c .before .line .ensures .2) (c .system-byte .ensures .2)
 
@@ -31,4 +22,4 @@ returns c =
 
 pub send-most-spec : {M : Type 1} → statement M
 send-most-spec =
-    tie.close (tie.spec vl-at-requires line-requires system-byte-requires mul-result returns)
+    tie.close (tie.spec (λ c κs. search needs) (λ c κs. search needs) (λ c κs. search needs) mul-result returns)

@@ -9,18 +9,6 @@ use borrow.Author.Needs.{needs}
 use Rattle.analysis.proofs.links.send_spread.Statement.{statement}
 use Rattle.analysis.proofs.links.send_spread.Tie as tie
 
-vl-at-requires : tie.Need-vl-at-requires
-vl-at-requires c κs = search needs
-
-line-requires : tie.Need-line-requires
-line-requires c κs = search needs
-
-sub-result : tie.Need-sub-result
-sub-result c = search needs
-
-system-byte-requires : tie.Need-system-byte-requires
-system-byte-requires c κs = search needs
-
 at-most : (c : tie.After-system-byte) → (c .before .line .result - 84) * c .system-byte .result ≤ 15380
 at-most c =
     let less : c .before .line .result - 84 ≤ 1538 = omega arith in
@@ -38,4 +26,4 @@ returns c =
 pub send-spread-spec : {M : Type 1} → statement M
 send-spread-spec =
     tie.close
-    (tie.spec vl-at-requires line-requires sub-result system-byte-requires mul-result returns)
+    (tie.spec (λ c κs. search needs) (λ c κs. search needs) (λ c. search needs) (λ c κs. search needs) mul-result returns)

@@ -20,14 +20,8 @@ Inv-loop net e but n sum₀ v₀ sum v = (v ≤ n) × (sum ≡ sumWithout (netwo
 abbrev μ-loop : tie.MeasureT-loop
 μ-loop net e but n sum₀ v₀ sum v = n - v
 
-vls-in-requires : tie.Need-vls-in-requires Inv-loop μ-loop
-vls-in-requires c κs = search needs
-
 loop-holds : tie.Need-loop-holds Inv-loop μ-loop
 loop-holds c = (omega arith, sym (sum-without-none _ _ _))
-
-vl-at-requires : tie.Need-vl-at-requires Inv-loop μ-loop
-vl-at-requires c κs = search needs
 
 send-most-requires : tie.Need-send-most-requires Inv-loop μ-loop
 send-most-requires c κs = (c .before .before .before .before .before .before .before .pre, omega arith)
@@ -39,12 +33,6 @@ add-sum c =
     let net = networkOn (start .args .net .now) in
     let before = sum-without-bound net (start .pre .ranges) (start .pre .references) (start .args .e) (start .args .but) (l .v) (omega arith) in
     omega (arith, l .inv .1, c .send-most .ensures .1, l .inv .0, c .before .before .before .before .before .before .before .vls-in .ensures .1)
-
-add-v : tie.Need-add-v Inv-loop μ-loop
-add-v c = search needs
-
-loop-less : tie.Need-loop-less Inv-loop μ-loop
-loop-less c = search needs
 
 loop-again : tie.Need-loop-again Inv-loop μ-loop
 loop-again c =
@@ -79,12 +67,12 @@ sum-without-spec =
     (tie.spec
     Inv-loop
     μ-loop
-    vls-in-requires
+    (λ c κs. search needs)
     loop-holds
-    vl-at-requires
+    (λ c κs. search needs)
     send-most-requires
     add-sum
-    add-v
-    loop-less
+    (λ c. search needs)
+    (λ c. search needs)
     loop-again
     returns)

@@ -51,75 +51,30 @@ long-6 c =
     let u = c .before .before .before .before .before .before .before .before .before .before .before .before .before .before .before .before .before .before .before .before .before .before .before .before in
     still-long (c .before .before .before .put5 .last .0) 4681 (u .unpack .last .1 .1 .1 .1 .1 .0) (c .put6 .ensures) (long-5 (c .before .before .before)) (omega (arith, lists-long u .ports-long))
 
-slice-aggregate-unpack : tie.Need-slice-aggregate-unpack
-slice-aggregate-unpack c = search needs
-
-slice-aggregate-unpack-2 : tie.Need-slice-aggregate-unpack-2
-slice-aggregate-unpack-2 c = search needs
-
-slice-aggregate-unpack-3 : tie.Need-slice-aggregate-unpack-3
-slice-aggregate-unpack-3 c = search needs
-
-slice-aggregate-unpack-4 : tie.Need-slice-aggregate-unpack-4
-slice-aggregate-unpack-4 c = search needs
-
-slice-aggregate-unpack-5 : tie.Need-slice-aggregate-unpack-5
-slice-aggregate-unpack-5 c = search needs
-
-slice-aggregate-unpack-6 : tie.Need-slice-aggregate-unpack-6
-slice-aggregate-unpack-6 c = search needs
-
-unpack-requires : tie.Need-unpack-requires
-unpack-requires c κs = search needs
-
-slice-aggregate-put : tie.Need-slice-aggregate-put
-slice-aggregate-put c = search needs
-
-put-requires : tie.Need-put-requires
-put-requires c κs = search needs
-
-slice-aggregate-put-2 : tie.Need-slice-aggregate-put-2
-slice-aggregate-put-2 c = search needs
-
 put-requires-2 : tie.Need-put-requires-2
 put-requires-2 c κs =
     let u = c .before .before .before .before .before .before .before .before .before .before .before in
     (long-1 (c .before .before), omega (arith, lists-long u .counts-long))
-
-slice-aggregate-put-3 : tie.Need-slice-aggregate-put-3
-slice-aggregate-put-3 c = search needs
 
 put-requires-3 : tie.Need-put-requires-3
 put-requires-3 c κs =
     let u = c .before .before .before .before .before .before .before .before .before .before .before .before .before .before in
     (long-2 (c .before .before), omega (arith, lists-long u .systems-long))
 
-slice-aggregate-put-4 : tie.Need-slice-aggregate-put-4
-slice-aggregate-put-4 c = search needs
-
 put-requires-4 : tie.Need-put-requires-4
 put-requires-4 c κs =
     let u = c .before .before .before .before .before .before .before .before .before .before .before .before .before .before .before .before .before in
     (long-3 (c .before .before), omega (arith, lists-long u .vls-long))
-
-slice-aggregate-put-5 : tie.Need-slice-aggregate-put-5
-slice-aggregate-put-5 c = search needs
 
 put-requires-5 : tie.Need-put-requires-5
 put-requires-5 c κs =
     let u = c .before .before .before .before .before .before .before .before .before .before .before .before .before .before .before .before .before .before .before .before in
     (long-4 (c .before .before), omega (arith, lists-long u .streams-long))
 
-slice-aggregate-put-6 : tie.Need-slice-aggregate-put-6
-slice-aggregate-put-6 c = search needs
-
 put-requires-6 : tie.Need-put-requires-6
 put-requires-6 c κs =
     let u = c .before .before .before .before .before .before .before .before .before .before .before .before .before .before .before .before .before .before .before .before .before .before .before in
     (long-5 (c .before .before), omega (arith, lists-long u .ports-long))
-
-slice-aggregate-put-7 : tie.Need-slice-aggregate-put-7
-slice-aggregate-put-7 c = search needs
 
 put-requires-7 : tie.Need-put-requires-7
 put-requires-7 c κs =
@@ -143,25 +98,25 @@ pub load-spec : {M : Type 1} → statement M
 load-spec =
     tie.close
     (tie.spec
-    slice-aggregate-unpack
-    slice-aggregate-unpack-2
-    slice-aggregate-unpack-3
-    slice-aggregate-unpack-4
-    slice-aggregate-unpack-5
-    slice-aggregate-unpack-6
-    unpack-requires
-    slice-aggregate-put
-    put-requires
-    slice-aggregate-put-2
+    (λ c. search needs)
+    (λ c. search needs)
+    (λ c. search needs)
+    (λ c. search needs)
+    (λ c. search needs)
+    (λ c. search needs)
+    (λ c κs. search needs)
+    (λ c. search needs)
+    (λ c κs. search needs)
+    (λ c. search needs)
     put-requires-2
-    slice-aggregate-put-3
+    (λ c. search needs)
     put-requires-3
-    slice-aggregate-put-4
+    (λ c. search needs)
     put-requires-4
-    slice-aggregate-put-5
+    (λ c. search needs)
     put-requires-5
-    slice-aggregate-put-6
+    (λ c. search needs)
     put-requires-6
-    slice-aggregate-put-7
+    (λ c. search needs)
     put-requires-7
     returns)

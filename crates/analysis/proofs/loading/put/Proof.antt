@@ -20,27 +20,6 @@ abbrev μ-loop : tie.MeasureT-loop
 loop-holds : tie.Need-loop-holds Inv-loop μ-loop
 loop-holds c = (omega arith, paste-zero (c .args .net .now) (c .args .at) (c .args .list .now))
 
-mul-net : tie.Need-mul-net Inv-loop μ-loop
-mul-net c = search needs
-
-shared-slice-read-net : tie.Need-shared-slice-read-net Inv-loop μ-loop
-shared-slice-read-net c = search needs
-
-add-net : tie.Need-add-net Inv-loop μ-loop
-add-net c = search needs
-
-mul-net-2 : tie.Need-mul-net-2 Inv-loop μ-loop
-mul-net-2 c = search needs
-
-element-write-net : tie.Need-element-write-net Inv-loop μ-loop
-element-write-net c = search needs
-
-add-i : tie.Need-add-i Inv-loop μ-loop
-add-i c = search needs
-
-loop-less : tie.Need-loop-less Inv-loop μ-loop
-loop-less c = search needs
-
 loop-again : tie.Need-loop-again Inv-loop μ-loop
 loop-again c =
     let a = c .before .before .before .args in
@@ -61,12 +40,12 @@ put-spec =
     Inv-loop
     μ-loop
     loop-holds
-    mul-net
-    shared-slice-read-net
-    add-net
-    mul-net-2
-    element-write-net
-    add-i
-    loop-less
+    (λ c. search needs)
+    (λ c. search needs)
+    (λ c. search needs)
+    (λ c. search needs)
+    (λ c. search needs)
+    (λ c. search needs)
+    (λ c. search needs)
     loop-again
     returns)

@@ -8,21 +8,6 @@ use borrow.Author.Needs.{needs}
 use Rattle.analysis.proofs.ports.hop_jitter.Statement.{statement}
 use Rattle.analysis.proofs.ports.hop_jitter.Tie as tie
 
-hop-at-requires : tie.Need-hop-at-requires
-hop-at-requires c κs = search needs
-
-hop-spread-requires : tie.Need-hop-spread-requires
-hop-spread-requires c κs = search needs
-
-mul-result : tie.Need-mul-result
-mul-result c = search needs
-
-element-copy-out-result : tie.Need-element-copy-out-result
-element-copy-out-result c = search needs
-
-send-spread-requires : tie.Need-send-spread-requires
-send-spread-requires c κs = search needs
-
 root-wait : (c : tie.After-send-spread) → getD (c .before .before .before .before .before .args .waits .now) (c .before .before .before .before .hop-at .result .vl) 0 ≤ 3937280
 root-wait c =
     let asked = c .before .before .before .before .before .pre in
@@ -40,27 +25,6 @@ returns c =
     let asked = start .pre in
     root-jitter-is _ (asked .0 .ranges) (asked .0 .references) _ (asked .1) _ (c .before .before .before .before .hop-at .ensures) _ (asked .2)
     (c .before .before .if1 .taken) _ (c .send-spread .ensures .0) _ (c .before .before .before .hop-spread .ensures .0)
-
-hop-at-requires-2 : tie.Need-hop-at-requires-2
-hop-at-requires-2 c κs = search needs
-
-mul-result-2 : tie.Need-mul-result-2
-mul-result-2 c = search needs
-
-element-copy-out-result-2 : tie.Need-element-copy-out-result-2
-element-copy-out-result-2 c = search needs
-
-mul-less : tie.Need-mul-less
-mul-less c = search needs
-
-element-copy-out-less : tie.Need-element-copy-out-less
-element-copy-out-less c = search needs
-
-hop-least-requires : tie.Need-hop-least-requires
-hop-least-requires c κs = search needs
-
-less-requires : tie.Need-less-requires
-less-requires c κs = search needs
 
 child-bounds :
     (c : tie.After-less)
@@ -95,21 +59,21 @@ pub hop-jitter-spec : {M : Type 1} → statement M
 hop-jitter-spec =
     tie.close
     (tie.spec
-    hop-at-requires
-    hop-spread-requires
-    mul-result
-    element-copy-out-result
-    send-spread-requires
+    (λ c κs. search needs)
+    (λ c κs. search needs)
+    (λ c. search needs)
+    (λ c. search needs)
+    (λ c κs. search needs)
     add-result
     add-result-2
     returns
-    hop-at-requires-2
-    mul-result-2
-    element-copy-out-result-2
-    mul-less
-    element-copy-out-less
-    hop-least-requires
-    less-requires
+    (λ c κs. search needs)
+    (λ c. search needs)
+    (λ c. search needs)
+    (λ c. search needs)
+    (λ c. search needs)
+    (λ c κs. search needs)
+    (λ c κs. search needs)
     add-result-3
     add-result-4
     returns-2)

@@ -6,18 +6,6 @@ use borrow.Author.Needs.{needs}
 use Rattle.analysis.proofs.ports.hop_most.Statement.{statement}
 use Rattle.analysis.proofs.ports.hop_most.Tie as tie
 
-hop-at-requires : tie.Need-hop-at-requires
-hop-at-requires c κs = search needs
-
-vl-at-requires : tie.Need-vl-at-requires
-vl-at-requires c κs = search needs
-
-port-at-requires : tie.Need-port-at-requires
-port-at-requires c κs = search needs
-
-line-requires : tie.Need-line-requires
-line-requires c κs = search needs
-
 mul-result : tie.Need-mul-result
 mul-result c =
     let bytes = c .before .line .ensures in
@@ -34,4 +22,4 @@ returns c =
 pub hop-most-spec : {M : Type 1} → statement M
 hop-most-spec =
     tie.close
-    (tie.spec hop-at-requires vl-at-requires port-at-requires line-requires mul-result returns)
+    (tie.spec (λ c κs. search needs) (λ c κs. search needs) (λ c κs. search needs) (λ c κs. search needs) mul-result returns)

@@ -1,7 +1,7 @@
 -- `analysis::ports::port_flows` meets its contract: after h turns the flows of the first h hops that are on the port are gathered, and their jitters are noted.
 -- Assumes nothing.
 use mathlib.Core.Logic.{inl, inr}
-use mathlib.Core.Path.{refl, sym, _∙_}
+use mathlib.Core.Path.{sym, _∙_}
 use Prim.Native.Nat.{_-_}
 use native.Mathlib.Omega.{arith}
 use borrow.Author.Needs.{needs}
@@ -16,14 +16,8 @@ Inv-loop net waits figures p jitters₀ flows₀ count₀ n h₀ jitters flows c
 abbrev μ-loop : tie.MeasureT-loop
 μ-loop net waits figures p jitters₀ flows₀ count₀ n h₀ jitters flows count h = n - h
 
-hops-in-requires : tie.Need-hops-in-requires Inv-loop μ-loop
-hops-in-requires c κs = search needs
-
 loop-holds : tie.Need-loop-holds Inv-loop μ-loop
-loop-holds c = gathering-none _ _ _ _ refl (c .before .pre .3)
-
-hop-at-requires : tie.Need-hop-at-requires Inv-loop μ-loop
-hop-at-requires c κs = search needs
+loop-holds c = gathering-none _ _ _ _ (c .before .pre .4) (c .before .pre .3)
 
 hop-jitter-requires : tie.Need-hop-jitter-requires Inv-loop μ-loop
 hop-jitter-requires c κs =
@@ -31,32 +25,13 @@ hop-jitter-requires c κs =
     let on = sym (c .before .before .before .hop-at .ensures .port) ∙ c .before .if1 .taken in
     (asked .0, omega arith, asked .1, rw on (asked .2), rw on (c .before .before .before .before .before .loop .inv .lower))
 
-mul-jitters : tie.Need-mul-jitters Inv-loop μ-loop
-mul-jitters c = search needs
-
-element-write-jitters : tie.Need-element-write-jitters Inv-loop μ-loop
-element-write-jitters c = search needs
-
-vl-at-requires : tie.Need-vl-at-requires Inv-loop μ-loop
-vl-at-requires c κs = search needs
-
 hop-most-requires : tie.Need-hop-most-requires Inv-loop μ-loop
 hop-most-requires c κs = (c .before .before .before .before .before .before .before .before .before .pre .0, omega arith)
 
-mul-flows : tie.Need-mul-flows Inv-loop μ-loop
-mul-flows c = search needs
-
-array-set-from-flows : tie.Need-array-set-from-flows Inv-loop μ-loop
-array-set-from-flows c = search needs
-
-add-count : tie.Need-add-count Inv-loop μ-loop
-add-count c = search needs
-
-add-h : tie.Need-add-h Inv-loop μ-loop
-add-h c = search needs
-
-loop-less : tie.Need-loop-less Inv-loop μ-loop
-loop-less c = search needs
+put-flow-requires : tie.Need-put-flow-requires Inv-loop μ-loop
+put-flow-requires c κs =
+    let l = c .before .before .before .before .before .before .before .before .before .loop in
+    (l .inv .gathers .long, omega (arith, l .inv .gathers .few))
 
 loop-again : tie.Need-loop-again Inv-loop μ-loop
 loop-again c =
@@ -66,7 +41,7 @@ loop-again c =
     elim (c .if1 .came) [
       | inl t ↦
           gathering-taken _ _ (l .h) (l .jitters) (l .flows) (l .count) (l .inv) few-hops (omega arith) (sym (hop .port) ∙ t .0 .taken) _ (t .2 .ensures) _ hop _ (t .3 .ensures) _ (t .4 .ensures .0)
-          _ (t .5) _ (t .6) _ (t .7)
+          _ (t .7) _ (t .6 .ensures) _ (t .8) _ (t .9)
       | inr t ↦ gathering-passed _ _ (l .h) (l .jitters) (l .flows) (l .count) (l .inv) (omega arith) (λ e. t .0 .left (hop .port ∙ e)) _ (t .1) _ (t .2) _ (t .3)
     ]
 
@@ -84,18 +59,17 @@ port-flows-spec =
     (tie.spec
     Inv-loop
     μ-loop
-    hops-in-requires
+    (λ c κs. search needs)
     loop-holds
-    hop-at-requires
+    (λ c κs. search needs)
     hop-jitter-requires
-    mul-jitters
-    element-write-jitters
-    vl-at-requires
+    (λ c. search needs)
+    (λ c. search needs)
+    (λ c κs. search needs)
     hop-most-requires
-    mul-flows
-    array-set-from-flows
-    add-count
-    add-h
-    loop-less
+    put-flow-requires
+    (λ c. search needs)
+    (λ c. search needs)
+    (λ c. search needs)
     loop-again
     returns)

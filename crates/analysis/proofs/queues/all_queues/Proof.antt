@@ -2,7 +2,7 @@
 -- Assumes nothing.
 use Prim.Native.Nat.{ℕ, _-_, _≤_, _<_}
 use mathlib.Core.Bool.{false}
-use mathlib.Core.Path.{_≡_, sym, _∙_}
+use mathlib.Core.Path.{_≡_, refl, sym, _∙_}
 use native.Mathlib.Omega.{arith}
 use borrow.Author.Count.{below-more}
 use lib.ListN.{length}
@@ -16,50 +16,38 @@ use Rattle.analysis.proofs.queues.all_queues.Statement.{statement}
 use Rattle.analysis.proofs.queues.all_queues.Tie as tie
 
 abbrev Inv-loop : tie.InvT-loop
-Inv-loop net queues₀ n v₀ queues v =
-    (v ≤ n) × (length queues ≡ 1024) × ((i : ℕ) → i < v → isSome (endlessSubLink (networkOn net) i) ≡ false) × Queues (networkOn net) queues v
+Inv-loop net queues₀ flows₀ n v₀ queues flows v =
+    (v ≤ n) × (length queues ≡ 1024) × ((i : ℕ) → i < v → isSome (endlessSubLink (networkOn net) i) ≡ false) × Queues (networkOn net) queues v × (length flows ≡ 3072)
 
 abbrev μ-loop : tie.MeasureT-loop
-μ-loop net queues₀ n v₀ queues v = n - v
-
-vls-in-requires : tie.Need-vls-in-requires Inv-loop μ-loop
-vls-in-requires c κs = search needs
+μ-loop net queues₀ flows₀ n v₀ queues flows v = n - v
 
 loop-holds : tie.Need-loop-holds Inv-loop μ-loop
-loop-holds c = (omega arith, c .before .pre .1, (λ i h. absurd (omega arith)), queues-none _ _)
-
-vl-queues-requires : tie.Need-vl-queues-requires Inv-loop μ-loop
-vl-queues-requires c κs = search needs
+loop-holds c = (omega arith, c .before .pre .1, (λ i h. absurd (omega arith)), queues-none _ _, refl)
 
 -- the queues of the VLs before stay
 earlier-stay :
     (c : tie.After-vl-queues Inv-loop μ-loop)
-    → Queues (networkOn (c .before .before .before .before .before .args .net .now)) (c .vl-queues .last .1 .1 .0) (c .before .before .before .loop .v)
+    → Queues (networkOn (c .before .before .before .before .before .before .args .net .now)) (c .vl-queues .last .1 .1 .1 .0) (c .before .before .before .before .loop .v)
 earlier-stay c =
-    let l = c .before .before .before .loop in
-    queues-kept _ (c .before .before .before .before .before .pre .0 .ranges) (l .queues) _ (l .v) (omega arith) (c .vl-queues .ensures .2) (l .inv .3)
+    let l = c .before .before .before .before .loop in
+    queues-kept _ (c .before .before .before .before .before .before .pre .0 .ranges) (l .queues) _ (l .v) (omega arith) (c .vl-queues .ensures .2) (l .inv .3)
 
 returns : tie.Need-returns Inv-loop μ-loop
 returns c = (
   record {
     inside = omega arith;
-    before = c .before .before .before .before .loop .inv .2;
+    before = c .before .before .before .before .before .loop .inv .2;
     there = λ h. sym (c .before .vl-queues .ensures .0) ∙ c .if1 .taken;
   },
   earlier-stay (c .before),
 )
 
-add-v : tie.Need-add-v Inv-loop μ-loop
-add-v c = search needs
-
-loop-less : tie.Need-loop-less Inv-loop μ-loop
-loop-less c = search needs
-
 loop-again : tie.Need-loop-again Inv-loop μ-loop
 loop-again c =
-    let l = c .before .before .before .before .loop in
+    let l = c .before .before .before .before .before .loop in
     let e = c .before .vl-queues .ensures in
-    (omega arith, e .3, below-more _ _ (l .inv .2) (sym (e .0) ∙ c .if1 .left), queues-more _ _ _ (earlier-stay (c .before)) (e .1 (c .if1 .left)))
+    (omega arith, e .3, below-more _ _ (l .inv .2) (sym (e .0) ∙ c .if1 .left), queues-more _ _ _ (earlier-stay (c .before)) (e .1 (c .if1 .left)), e .4)
 
 returns-2 : tie.Need-returns-2 Inv-loop μ-loop
 returns-2 c =
@@ -73,11 +61,11 @@ all-queues-spec =
     (tie.spec
     Inv-loop
     μ-loop
-    vls-in-requires
+    (λ c κs. search needs)
     loop-holds
-    vl-queues-requires
+    (λ c κs. search needs)
     returns
-    add-v
-    loop-less
+    (λ c. search needs)
+    (λ c. search needs)
     loop-again
     returns-2)

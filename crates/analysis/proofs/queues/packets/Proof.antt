@@ -9,15 +9,6 @@ use borrow.Author.Needs.{needs}
 use Rattle.analysis.proofs.queues.packets.Statement.{statement}
 use Rattle.analysis.proofs.queues.packets.Tie as tie
 
-packets-of-requires : tie.Need-packets-of-requires
-packets-of-requires c κs = search needs
-
-enum-known-n : tie.Need-enum-known-n
-enum-known-n c = search needs
-
-enum-told : tie.Need-enum-told
-enum-told c = search needs
-
 returns : tie.Need-returns
 returns c =
     let start = c .before .before .before .before in
@@ -37,4 +28,4 @@ returns-2 c =
     absurd (never-refused (packetsOf m lmax) (packets m lmax) given _ (c .before .before .packets-of .ensures) (c .enum-told .given .1))
 
 pub packets-spec : {M : Type 1} → statement M
-packets-spec = tie.close (tie.spec packets-of-requires enum-known-n enum-told returns returns-2)
+packets-spec = tie.close (tie.spec (λ c κs. search needs) (λ c. search needs) (λ c. search needs) returns returns-2)

@@ -6,24 +6,18 @@ use borrow.Author.Needs.{needs}
 use Rattle.analysis.proofs.queues.queue.Statement.{statement}
 use Rattle.analysis.proofs.queues.queue.Tie as tie
 
-queue-flows-requires : tie.Need-queue-flows-requires
-queue-flows-requires c κs = search needs
-
 served-requires : tie.Need-served-requires
 served-requires c κs =
-    let f = c .queue-flows .ensures in
-    (f .few, rw (f .front) (queue-offered _ (c .before .pre .0 .ranges) (c .before .pre .0 .references) _ _))
-
-vl-at-requires : tie.Need-vl-at-requires
-vl-at-requires c κs = search needs
-
-less-requires : tie.Need-less-requires
-less-requires c κs = search needs
+    let f = c .before .queue-flows .ensures in
+    let good = c .before .before .before .pre .0 in
+    (f .long, f .few, rw (f .front) (queue-offered _ (good .ranges) (good .references) _ _))
 
 returns : tie.Need-returns
 returns c =
-    queue-found _ _ _ _ _ _ _ (c .before .before .before .queue-flows .ensures) (c .before .before .served .ensures) (c .before .vl-at .ensures .gap) (c .less .ensures)
+    let f = c .before .before .before .before .queue-flows .ensures in
+    let found = queue-found _ _ _ _ _ _ _ _ f (c .before .before .served .ensures) (c .before .vl-at .ensures .gap) (c .less .ensures) in
+    (found .0, found .1, f .long)
 
 pub queue-spec : {M : Type 1} → statement M
 queue-spec =
-    tie.close (tie.spec queue-flows-requires served-requires vl-at-requires less-requires returns)
+    tie.close (tie.spec (λ c κs. search needs) served-requires (λ c κs. search needs) (λ c κs. search needs) returns)

@@ -8,24 +8,6 @@ use borrow.Author.Needs.{needs}
 use Rattle.analysis.proofs.queues.queue_flow.Statement.{statement}
 use Rattle.analysis.proofs.queues.queue_flow.Tie as tie
 
-delays-of-requires : tie.Need-delays-of-requires
-delays-of-requires c κs = search needs
-
-stream-at-requires : tie.Need-stream-at-requires
-stream-at-requires c κs = search needs
-
-vl-at-requires : tie.Need-vl-at-requires
-vl-at-requires c κs = search needs
-
-sub-t6 : tie.Need-sub-t6
-sub-t6 c = search needs
-
-add-t7 : tie.Need-add-t7
-add-t7 c = search needs
-
-packets-requires : tie.Need-packets-requires
-packets-requires c κs = search needs
-
 -- at most 482 packets on at most 4 sub-links
 few-packets : (c : tie.After-packets) → c .packets .result * c .before .before .before .vl-at .result .«sub_links» ≤ 1928
 few-packets c = mul-le-mul (c .packets .ensures .2) (c .before .before .before .vl-at .ensures .sub-links-greatest)
@@ -45,12 +27,12 @@ pub queue-flow-spec : {M : Type 1} → statement M
 queue-flow-spec =
     tie.close
     (tie.spec
-    delays-of-requires
-    stream-at-requires
-    vl-at-requires
-    sub-t6
-    add-t7
-    packets-requires
+    (λ c κs. search needs)
+    (λ c κs. search needs)
+    (λ c κs. search needs)
+    (λ c. search needs)
+    (λ c. search needs)
+    (λ c κs. search needs)
     mul-t10
     mul-t11
     returns)

@@ -2,7 +2,6 @@
 -- Assumes nothing.
 use Prim.Native.Nat.{_-_, _≤_}
 use mathlib.Core.Logic.{⊎-elim}
-use mathlib.Core.Path.{refl}
 use native.Mathlib.Omega.{arith}
 use Rattle.rows.specs.Queues.{queueFlow}
 use Rattle.analysis.specs.Sheet.{networkOn}
@@ -19,32 +18,14 @@ Inv-loop net v k flows₀ count₀ n s₀ flows count s =
 abbrev μ-loop : tie.MeasureT-loop
 μ-loop net v k flows₀ count₀ n s₀ flows count s = n - s
 
-streams-in-requires : tie.Need-streams-in-requires Inv-loop μ-loop
-streams-in-requires c κs = search needs
-
 loop-holds : tie.Need-loop-holds Inv-loop μ-loop
-loop-holds c = (omega arith, gather-start _ _ _ refl)
-
-stream-at-requires : tie.Need-stream-at-requires Inv-loop μ-loop
-stream-at-requires c κs = search needs
+loop-holds c = (omega arith, gather-start _ _ _ (c .before .pre .1))
 
 queue-flow-requires : tie.Need-queue-flow-requires Inv-loop μ-loop
-queue-flow-requires c κs = (c .before .before .before .before .before .before .before .before .pre, omega arith)
+queue-flow-requires c κs = (c .before .before .before .before .before .before .before .before .before .pre .0, omega arith)
 
-mul-flows : tie.Need-mul-flows Inv-loop μ-loop
-mul-flows c = search needs
-
-array-set-from-flows : tie.Need-array-set-from-flows Inv-loop μ-loop
-array-set-from-flows c = search needs
-
-add-count : tie.Need-add-count Inv-loop μ-loop
-add-count c = search needs
-
-add-s : tie.Need-add-s Inv-loop μ-loop
-add-s c = search needs
-
-loop-less : tie.Need-loop-less Inv-loop μ-loop
-loop-less c = search needs
+put-flow-requires : tie.Need-put-flow-requires Inv-loop μ-loop
+put-flow-requires c κs = (c .before .before .before .before .before .before .before .before .loop .inv .1 .long, omega (arith, c .before .before .before .before .before .before .before .before .loop .inv .1 .few))
 
 loop-again : tie.Need-loop-again Inv-loop μ-loop
 loop-again c =
@@ -53,7 +34,7 @@ loop-again c =
     let stream = c .before .before .stream-at .ensures in (
       omega arith,
       ⊎-elim
-          (λ w. rw (w .4, w .5) (gather-taken _ _ _ _ _ (l .inv .1) _ (omega arith) (on-sub-link _ (a .v) (a .k) _ _ stream (w .0 .taken) (w .2 .taken)) (w .3 .ensures)))
+          (λ w. rw (w .6, w .7) (gather-taken _ _ _ _ _ (l .inv .1) _ (on-sub-link _ (a .v) (a .k) _ _ stream (w .0 .taken) (w .2 .taken)) (w .4 .ensures) _ (w .5 .ensures .0) (w .5 .ensures .1)))
           (⊎-elim
           (λ w. rw (w .3, w .4) (gather-passed _ _ _ _ _ (l .inv .1) (on-other-sub-link _ (a .v) (a .k) _ _ stream (w .2 .left))))
           (λ w. rw (w .1, w .2) (gather-passed _ _ _ _ _ (l .inv .1) (on-other-vl _ (a .v) (a .k) _ _ stream (w .0 .left)))))
@@ -71,14 +52,13 @@ queue-flows-spec =
     (tie.spec
     Inv-loop
     μ-loop
-    streams-in-requires
+    (λ c κs. search needs)
     loop-holds
-    stream-at-requires
+    (λ c κs. search needs)
     queue-flow-requires
-    mul-flows
-    array-set-from-flows
-    add-count
-    add-s
-    loop-less
+    put-flow-requires
+    (λ c. search needs)
+    (λ c. search needs)
+    (λ c. search needs)
     loop-again
     returns)

@@ -17,35 +17,14 @@ gaps-most c =
     let count = c .before .packets .ensures in
     mul-le-mul {n₁ = c .before .packets .result - 1} {n₂ = 481} (omega (arith, count .2)) (c .before .before .vl-at .ensures .gap-greatest)
 
-delays-of-requires : tie.Need-delays-of-requires
-delays-of-requires c κs = search needs
-
-stream-at-requires : tie.Need-stream-at-requires
-stream-at-requires c κs = search needs
-
-vl-at-requires : tie.Need-vl-at-requires
-vl-at-requires c κs = search needs
-
-packets-requires : tie.Need-packets-requires
-packets-requires c κs = search needs
-
-sub-gaps : tie.Need-sub-gaps
-sub-gaps c = search needs
-
 mul-gaps : tie.Need-mul-gaps
 mul-gaps c = omega (arith, gaps-most c)
 
 add-result : tie.Need-add-result
 add-result c = omega (arith, gaps-most (c .before))
 
-send-least-requires : tie.Need-send-least-requires
-send-least-requires c κs = search needs
-
 add-result-2 : tie.Need-add-result-2
 add-result-2 c = omega (arith, gaps-most (c .before .before))
-
-route-least-requires : tie.Need-route-least-requires
-route-least-requires c κs = search needs
 
 add-result-3 : tie.Need-add-result-3
 add-result-3 c = omega (arith, gaps-most (c .before .before .before))
@@ -68,16 +47,16 @@ pub best-of-spec : {M : Type 1} → statement M
 best-of-spec =
     tie.close
     (tie.spec
-    delays-of-requires
-    stream-at-requires
-    vl-at-requires
-    packets-requires
-    sub-gaps
+    (λ c κs. search needs)
+    (λ c κs. search needs)
+    (λ c κs. search needs)
+    (λ c κs. search needs)
+    (λ c. search needs)
     mul-gaps
     add-result
-    send-least-requires
+    (λ c κs. search needs)
     add-result-2
-    route-least-requires
+    (λ c κs. search needs)
     add-result-3
     add-result-4
     returns)

@@ -19,23 +19,8 @@ Inv-loop net leaves₀ n h₀ leaves h = (h ≤ n) × (length leaves ≡ 1024) �
 abbrev μ-loop : tie.MeasureT-loop
 μ-loop net leaves₀ n h₀ leaves h = n - h
 
-hops-in-requires : tie.Need-hops-in-requires Inv-loop μ-loop
-hops-in-requires c κs = search needs
-
 loop-holds : tie.Need-loop-holds Inv-loop μ-loop
 loop-holds c = (omega arith, length-replicate {A = Bool} 1024 true, leaves-start (networkOn (c .before .args .net .now)) (omega arith))
-
-hop-at-requires : tie.Need-hop-at-requires Inv-loop μ-loop
-hop-at-requires c κs = search needs
-
-array-write-leaves : tie.Need-array-write-leaves Inv-loop μ-loop
-array-write-leaves c = search needs
-
-add-h : tie.Need-add-h Inv-loop μ-loop
-add-h c = search needs
-
-loop-less : tie.Need-loop-less Inv-loop μ-loop
-loop-less c = search needs
 
 loop-again : tie.Need-loop-again Inv-loop μ-loop
 loop-again c =
@@ -59,11 +44,11 @@ leaves-spec =
     (tie.spec
     Inv-loop
     μ-loop
-    hops-in-requires
+    (λ c κs. search needs)
     loop-holds
-    hop-at-requires
-    array-write-leaves
-    add-h
-    loop-less
+    (λ c κs. search needs)
+    (λ c. search needs)
+    (λ c. search needs)
+    (λ c. search needs)
     loop-again
     returns)

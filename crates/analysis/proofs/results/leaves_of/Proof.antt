@@ -19,27 +19,9 @@ Inv-loop net leaves v n count₀ h₀ count h = (h ≤ n) × (count ≤ h) × (c
 abbrev μ-loop : tie.MeasureT-loop
 μ-loop net leaves v n count₀ h₀ count h = n - h
 
-hops-in-requires : tie.Need-hops-in-requires Inv-loop μ-loop
-hops-in-requires c κs = search needs
-
 loop-holds : tie.Need-loop-holds Inv-loop μ-loop
 unfolding passing
 loop-holds c = omega arith
-
-hop-at-requires : tie.Need-hop-at-requires Inv-loop μ-loop
-hop-at-requires c κs = search needs
-
-element-copy-out-if2 : tie.Need-element-copy-out-if2 Inv-loop μ-loop
-element-copy-out-if2 c = search needs
-
-add-count : tie.Need-add-count Inv-loop μ-loop
-add-count c = search needs
-
-add-h : tie.Need-add-h Inv-loop μ-loop
-add-h c = search needs
-
-loop-less : tie.Need-loop-less Inv-loop μ-loop
-loop-less c = search needs
 
 loop-again : tie.Need-loop-again Inv-loop μ-loop
 loop-again c =
@@ -70,12 +52,12 @@ leaves-of-spec =
     (tie.spec
     Inv-loop
     μ-loop
-    hops-in-requires
+    (λ c κs. search needs)
     loop-holds
-    hop-at-requires
-    element-copy-out-if2
-    add-count
-    add-h
-    loop-less
+    (λ c κs. search needs)
+    (λ c. search needs)
+    (λ c. search needs)
+    (λ c. search needs)
+    (λ c. search needs)
     loop-again
     returns)

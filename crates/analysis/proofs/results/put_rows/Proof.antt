@@ -18,9 +18,6 @@ Inv-loop net waits queues figures leaves result₀ n at₀ s₀ result at s =
 abbrev μ-loop : tie.MeasureT-loop
 μ-loop net waits queues figures leaves result₀ n at₀ s₀ result at s = n - s
 
-streams-in-requires : tie.Need-streams-in-requires Inv-loop μ-loop
-streams-in-requires c κs = search needs
-
 loop-holds : tie.Need-loop-holds Inv-loop μ-loop
 loop-holds c =
     let start = c .before .before in
@@ -38,20 +35,11 @@ put-stream-requires c κs =
       fits = omega (arith, start .pre .2 .fits, l .inv .1);
     }
 
-add-s : tie.Need-add-s Inv-loop μ-loop
-add-s c = search needs
-
-loop-less : tie.Need-loop-less Inv-loop μ-loop
-loop-less c = search needs
-
 loop-again : tie.Need-loop-again Inv-loop μ-loop
 loop-again c =
     let l = c .before .before .before .before .before .loop in
     let kept = c .before .before .put-stream .kept .1 .1 .1 .1 .1 .1 .1 .0 in
     (omega arith, kept ∙ l .inv .1, rw (← (l .inv .1)) (c .before .before .put-stream .ensures))
-
-same-length : tie.Need-same-length Inv-loop μ-loop
-same-length c = search needs
 
 returns : tie.Need-returns Inv-loop μ-loop
 returns c =
@@ -65,11 +53,11 @@ put-rows-spec =
     (tie.spec
     Inv-loop
     μ-loop
-    streams-in-requires
+    (λ c κs. search needs)
     loop-holds
     put-stream-requires
-    add-s
-    loop-less
+    (λ c. search needs)
+    (λ c. search needs)
     loop-again
-    same-length
+    (λ c. search needs)
     returns)

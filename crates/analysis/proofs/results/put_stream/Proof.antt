@@ -45,23 +45,11 @@ room c =
     let d = destination c in
     put-room (networkOn (a .net .now)) (a .s) (l .next) (length (a .result .now)) (l .result) (start .pre .fits) (start .pre .stream-there) (l .h) (d .0) (d .1) (d .2) (l .inv .2)
 
-stream-at-requires : tie.Need-stream-at-requires Inv-loop μ-loop
-stream-at-requires c κs = search needs
-
-hops-in-requires : tie.Need-hops-in-requires Inv-loop μ-loop
-hops-in-requires c κs = search needs
-
 loop-holds : tie.Need-loop-holds Inv-loop μ-loop
 loop-holds c =
     let start = c .before .before .before in
     let a = start .args in
     (omega arith, refl, put-none (networkOn (a .net .now)) (a .s) (a .at) (length (a .result .now)) (a .result .now) (start .pre .before))
-
-hop-at-requires : tie.Need-hop-at-requires Inv-loop μ-loop
-hop-at-requires c κs = search needs
-
-element-copy-out-if2 : tie.Need-element-copy-out-if2 Inv-loop μ-loop
-element-copy-out-if2 c = search needs
 
 row-of-requires : tie.Need-row-of-requires Inv-loop μ-loop
 row-of-requires c κs =
@@ -74,12 +62,6 @@ put-row-requires c κs = omega (arith, room (c .before .before), c .before .befo
 add-next : tie.Need-add-next Inv-loop μ-loop
 add-next c =
     omega (arith, room (c .before .before .before .before .before), c .before .before .before .before .before .before .before .before .before .before .before .before .before .before .before .before .good)
-
-add-h : tie.Need-add-h Inv-loop μ-loop
-add-h c = search needs
-
-loop-less : tie.Need-loop-less Inv-loop μ-loop
-loop-less c = search needs
 
 loop-again : tie.Need-loop-again Inv-loop μ-loop
 loop-again c =
@@ -102,9 +84,6 @@ loop-again c =
     (c .if1 .came) in
     (omega (arith, inside, c .before .before .before .before .before .before .hops-in .ensures .0), put-length net (a .s) (c .if1 .next) n (c .if1 .result) (start .pre .fits) (start .pre .stream-there) (l .h + 1) (omega (arith, inside)) next, next)
 
-same-length : tie.Need-same-length Inv-loop μ-loop
-same-length c = search needs
-
 returns : tie.Need-returns Inv-loop μ-loop
 returns c =
     let a = c .before .before .before .before .before .args in
@@ -117,16 +96,16 @@ put-stream-spec =
     (tie.spec
     Inv-loop
     μ-loop
-    stream-at-requires
-    hops-in-requires
+    (λ c κs. search needs)
+    (λ c κs. search needs)
     loop-holds
-    hop-at-requires
-    element-copy-out-if2
+    (λ c κs. search needs)
+    (λ c. search needs)
     row-of-requires
     put-row-requires
     add-next
-    add-h
-    loop-less
+    (λ c. search needs)
+    (λ c. search needs)
     loop-again
-    same-length
+    (λ c. search needs)
     returns)

@@ -10,21 +10,6 @@ use borrow.Author.Needs.{needs}
 use Rattle.analysis.proofs.results.queue_of.Statement.{statement}
 use Rattle.analysis.proofs.results.queue_of.Tie as tie
 
-stream-at-requires : tie.Need-stream-at-requires
-stream-at-requires c κs = search needs
-
-mul-at : tie.Need-mul-at
-mul-at c = search needs
-
-add-at : tie.Need-add-at
-add-at c = search needs
-
-mul-result : tie.Need-mul-result
-mul-result c = search needs
-
-element-copy-out-result : tie.Need-element-copy-out-result
-element-copy-out-result c = search needs
-
 returns : tie.Need-returns
 unfolding queueOf
 returns c =
@@ -38,4 +23,4 @@ returns c =
 pub queue-of-spec : {M : Type 1} → statement M
 queue-of-spec =
     tie.close
-    (tie.spec stream-at-requires mul-at add-at mul-result element-copy-out-result returns)
+    (tie.spec (λ c κs. search needs) (λ c. search needs) (λ c. search needs) (λ c. search needs) (λ c. search needs) returns)

@@ -34,21 +34,6 @@ loop-holds c =
     let net = networkOn (c .args .net .now) in
     (omega arith, c .pre .1, omega arith, omega (arith, route-least-is net (c .args .h)))
 
-hop-at-requires : tie.Need-hop-at-requires Inv-loop μ-loop
-hop-at-requires c κs = search needs
-
-port-at-requires : tie.Need-port-at-requires Inv-loop μ-loop
-port-at-requires c κs = search needs
-
-hop-least-requires : tie.Need-hop-least-requires Inv-loop μ-loop
-hop-least-requires c κs = search needs
-
-add-sum : tie.Need-add-sum Inv-loop μ-loop
-add-sum c = search needs
-
-add-sum-2 : tie.Need-add-sum-2 Inv-loop μ-loop
-add-sum-2 c = search needs
-
 returns : tie.Need-returns Inv-loop μ-loop
 returns c =
     let net = networkOn (c .before .before .before .before .before .before .before .args .net .now) in
@@ -56,12 +41,6 @@ returns c =
     let hop = c .before .before .before .before .hop-at in
     let root = no-parent _ (hop .result .root) (hop .result .parent) (hop .ensures .parent) (c .if1 .taken) in
     (ap (λ (n : ℕ). l .sum + n) (added (c .before)) ∙ along-root net (leastAt net) (l .left) (l .g) (l .sum) _ (c .before .before .before .before .before .loop-test .taken) root (l .inv .3), omega arith)
-
-sub-left : tie.Need-sub-left Inv-loop μ-loop
-sub-left c = search needs
-
-loop-less : tie.Need-loop-less Inv-loop μ-loop
-loop-less c = search needs
 
 loop-again : tie.Need-loop-again Inv-loop μ-loop
 loop-again c =
@@ -85,13 +64,13 @@ route-least-spec =
     Inv-loop
     μ-loop
     loop-holds
-    hop-at-requires
-    port-at-requires
-    hop-least-requires
-    add-sum
-    add-sum-2
+    (λ c κs. search needs)
+    (λ c κs. search needs)
+    (λ c κs. search needs)
+    (λ c. search needs)
+    (λ c. search needs)
     returns
-    sub-left
-    loop-less
+    (λ c. search needs)
+    (λ c. search needs)
     loop-again
     returns-2)

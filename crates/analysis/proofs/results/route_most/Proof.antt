@@ -46,18 +46,6 @@ loop-holds c =
     let net = networkOn (c .args .net .now) in
     (omega arith, c .pre .1, omega arith, omega (arith, route-most-is net (c .args .h)))
 
-hop-at-requires : tie.Need-hop-at-requires Inv-loop μ-loop
-hop-at-requires c κs = search needs
-
-port-at-requires : tie.Need-port-at-requires Inv-loop μ-loop
-port-at-requires c κs = search needs
-
-mul-sum : tie.Need-mul-sum Inv-loop μ-loop
-mul-sum c = search needs
-
-element-copy-out-sum : tie.Need-element-copy-out-sum Inv-loop μ-loop
-element-copy-out-sum c = search needs
-
 add-sum : tie.Need-add-sum Inv-loop μ-loop
 add-sum c = omega (arith, added c)
 
@@ -72,12 +60,6 @@ returns c =
     let now = added (c .before) in
     let root = no-parent _ (hop .result .root) (hop .result .parent) (hop .ensures .parent) (c .if1 .taken) in
     (ap (λ (n : ℕ). l .sum + n) (now .0) ∙ along-root net (mostAt net) (l .left) (l .g) (l .sum) _ (c .before .before .before .before .before .loop-test .taken) root (l .inv .3), omega arith)
-
-sub-left : tie.Need-sub-left Inv-loop μ-loop
-sub-left c = search needs
-
-loop-less : tie.Need-loop-less Inv-loop μ-loop
-loop-less c = search needs
 
 loop-again : tie.Need-loop-again Inv-loop μ-loop
 loop-again c =
@@ -102,14 +84,14 @@ route-most-spec =
     Inv-loop
     μ-loop
     loop-holds
-    hop-at-requires
-    port-at-requires
-    mul-sum
-    element-copy-out-sum
+    (λ c κs. search needs)
+    (λ c κs. search needs)
+    (λ c. search needs)
+    (λ c. search needs)
     add-sum
     add-sum-2
     returns
-    sub-left
-    loop-less
+    (λ c. search needs)
+    (λ c. search needs)
     loop-again
     returns-2)

@@ -17,27 +17,9 @@ Inv-loop net leaves n count₀ s₀ count s = (s ≤ n) × (count ≤ s * 1024) 
 abbrev μ-loop : tie.MeasureT-loop
 μ-loop net leaves n count₀ s₀ count s = n - s
 
-streams-in-requires : tie.Need-streams-in-requires Inv-loop μ-loop
-streams-in-requires c κs = search needs
-
 loop-holds : tie.Need-loop-holds Inv-loop μ-loop
 unfolding rowsTo
 loop-holds c = omega arith
-
-stream-at-requires : tie.Need-stream-at-requires Inv-loop μ-loop
-stream-at-requires c κs = search needs
-
-leaves-of-requires : tie.Need-leaves-of-requires Inv-loop μ-loop
-leaves-of-requires c κs = search needs
-
-add-count : tie.Need-add-count Inv-loop μ-loop
-add-count c = search needs
-
-add-s : tie.Need-add-s Inv-loop μ-loop
-add-s c = search needs
-
-loop-less : tie.Need-loop-less Inv-loop μ-loop
-loop-less c = search needs
 
 loop-again : tie.Need-loop-again Inv-loop μ-loop
 loop-again c =
@@ -60,12 +42,12 @@ row-count-spec =
     (tie.spec
     Inv-loop
     μ-loop
-    streams-in-requires
+    (λ c κs. search needs)
     loop-holds
-    stream-at-requires
-    leaves-of-requires
-    add-count
-    add-s
-    loop-less
+    (λ c κs. search needs)
+    (λ c κs. search needs)
+    (λ c. search needs)
+    (λ c. search needs)
+    (λ c. search needs)
     loop-again
     returns)

@@ -6,24 +6,6 @@ use borrow.Author.Needs.{needs}
 use Rattle.analysis.proofs.results.row_of.Statement.{statement}
 use Rattle.analysis.proofs.results.row_of.Tie as tie
 
-stream-at-requires : tie.Need-stream-at-requires
-stream-at-requires c κs = search needs
-
-queue-of-requires : tie.Need-queue-of-requires
-queue-of-requires c κs = search needs
-
-worst-of-requires : tie.Need-worst-of-requires
-worst-of-requires c κs = search needs
-
-best-of-requires : tie.Need-best-of-requires
-best-of-requires c κs = search needs
-
-less-requires : tie.Need-less-requires
-less-requires c κs = search needs
-
-add-jitter : tie.Need-add-jitter
-add-jitter c = search needs
-
 returns : tie.Need-returns
 returns c =
     let start = c .before .before .before .before .before .before in
@@ -33,10 +15,10 @@ pub row-of-spec : {M : Type 1} → statement M
 row-of-spec =
     tie.close
     (tie.spec
-    stream-at-requires
-    queue-of-requires
-    worst-of-requires
-    best-of-requires
-    less-requires
-    add-jitter
+    (λ c κs. search needs)
+    (λ c κs. search needs)
+    (λ c κs. search needs)
+    (λ c κs. search needs)
+    (λ c κs. search needs)
+    (λ c. search needs)
     returns)

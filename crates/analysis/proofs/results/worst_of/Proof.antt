@@ -28,35 +28,11 @@ waited c =
     let is = wait-read net (start .args .waits .now) (stream .result .vl) v (known .waits-are) (stream .ensures .vl-there) (stream .ensures .vl) in
     (is, omega (arith, is, mux-wait-bound net (known .good .ranges) (known .good .references) v))
 
-delays-of-requires : tie.Need-delays-of-requires
-delays-of-requires c κs = search needs
-
-stream-at-requires : tie.Need-stream-at-requires
-stream-at-requires c κs = search needs
-
-queue-of-requires : tie.Need-queue-of-requires
-queue-of-requires c κs = search needs
-
-add-sent : tie.Need-add-sent
-add-sent c = search needs
-
-mul-sent : tie.Need-mul-sent
-mul-sent c = search needs
-
-element-copy-out-sent : tie.Need-element-copy-out-sent
-element-copy-out-sent c = search needs
-
 add-sent-2 : tie.Need-add-sent-2
 add-sent-2 c = omega (arith, waited c .1)
 
-send-most-requires : tie.Need-send-most-requires
-send-most-requires c κs = search needs
-
 add-sent-3 : tie.Need-add-sent-3
 add-sent-3 c = omega (arith, waited (c .before) .1)
-
-route-most-requires : tie.Need-route-most-requires
-route-most-requires c κs = search needs
 
 add-result : tie.Need-add-result
 add-result c = omega (arith, waited (c .before .before) .1)
@@ -82,16 +58,16 @@ pub worst-of-spec : {M : Type 1} → statement M
 worst-of-spec =
     tie.close
     (tie.spec
-    delays-of-requires
-    stream-at-requires
-    queue-of-requires
-    add-sent
-    mul-sent
-    element-copy-out-sent
+    (λ c κs. search needs)
+    (λ c κs. search needs)
+    (λ c κs. search needs)
+    (λ c. search needs)
+    (λ c. search needs)
+    (λ c. search needs)
     add-sent-2
-    send-most-requires
+    (λ c κs. search needs)
     add-sent-3
-    route-most-requires
+    (λ c κs. search needs)
     add-result
     add-result-2
     returns)

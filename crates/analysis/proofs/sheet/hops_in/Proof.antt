@@ -5,11 +5,8 @@ use borrow.Author.Needs.{needs}
 use Rattle.analysis.proofs.sheet.hops_in.Statement.{statement}
 use Rattle.analysis.proofs.sheet.hops_in.Tie as tie
 
-element-copy-out-result : tie.Need-element-copy-out-result
-element-copy-out-result c = search needs
-
 returns : tie.Need-returns
 returns c = (hops-on (c .before .pre), c .before .pre .few-hops)
 
 pub hops-in-spec : {M : Type 1} → statement M
-hops-in-spec = tie.close (tie.spec element-copy-out-result returns)
+hops-in-spec = tie.close (tie.spec (λ c. search needs) returns)

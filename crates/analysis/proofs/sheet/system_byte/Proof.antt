@@ -5,18 +5,6 @@ use borrow.Author.Needs.{needs}
 use Rattle.analysis.proofs.sheet.system_byte.Statement.{statement}
 use Rattle.analysis.proofs.sheet.system_byte.Tie as tie
 
-add-ticks-at : tie.Need-add-ticks-at
-add-ticks-at c = search needs
-
-mul-ticks-at : tie.Need-mul-ticks-at
-mul-ticks-at c = search needs
-
-element-copy-out-ticks-at : tie.Need-element-copy-out-ticks-at
-element-copy-out-ticks-at c = search needs
-
-ticks-at-requires : tie.Need-ticks-at-requires
-ticks-at-requires c κs = search needs
-
 returns : tie.Need-returns
 returns c =
     let a = c .before .before .args in
@@ -26,4 +14,4 @@ returns c =
 pub system-byte-spec : {M : Type 1} → statement M
 system-byte-spec =
     tie.close
-    (tie.spec add-ticks-at mul-ticks-at element-copy-out-ticks-at ticks-at-requires returns)
+    (tie.spec (λ c. search needs) (λ c. search needs) (λ c. search needs) (λ c κs. search needs) returns)

@@ -5,11 +5,8 @@ use borrow.Author.Needs.{needs}
 use Rattle.analysis.proofs.sheet.systems_in.Statement.{statement}
 use Rattle.analysis.proofs.sheet.systems_in.Tie as tie
 
-element-copy-out-result : tie.Need-element-copy-out-result
-element-copy-out-result c = search needs
-
 returns : tie.Need-returns
 returns c = (systems-on (c .before .pre), c .before .pre .few-systems)
 
 pub systems-in-spec : {M : Type 1} → statement M
-systems-in-spec = tie.close (tie.spec element-copy-out-result returns)
+systems-in-spec = tie.close (tie.spec (λ c. search needs) returns)

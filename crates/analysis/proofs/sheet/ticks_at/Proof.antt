@@ -6,19 +6,13 @@ use borrow.Author.Needs.{needs}
 use Rattle.analysis.proofs.sheet.ticks_at.Statement.{statement}
 use Rattle.analysis.proofs.sheet.ticks_at.Tie as tie
 
-per-byte-requires : tie.Need-per-byte-requires
-per-byte-requires c κs = search needs
-
 returns : tie.Need-returns
 unfolding ticksAt
 returns c = rw (eq-eqb _ _ (c .before .if1 .taken)) (c .per-byte .ensures)
-
-per-byte-requires-2 : tie.Need-per-byte-requires-2
-per-byte-requires-2 c κs = search needs
 
 returns-2 : tie.Need-returns-2
 unfolding ticksAt
 returns-2 c = rw (ne-eqb _ _ (c .before .if1 .left)) (c .per-byte2 .ensures)
 
 pub ticks-at-spec : {M : Type 1} → statement M
-ticks-at-spec = tie.close (tie.spec per-byte-requires returns per-byte-requires-2 returns-2)
+ticks-at-spec = tie.close (tie.spec (λ c κs. search needs) returns (λ c κs. search needs) returns-2)
