@@ -5,7 +5,7 @@ use crate::counts::LONGEST;
 use crate::counts::all_of;
 use crate::counts::of_bytes;
 use crate::counts::of_numbers;
-use crate::text::byte_value;
+use crate::output::byte_value;
 use libc::STDIN_FILENO;
 
 const LONGEST_BYTES: usize = 28_800;

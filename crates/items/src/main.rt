@@ -2,7 +2,8 @@
 // The items and the answers come from an implementation of 01 that shares nothing with this one; tests/held says how each is laid out.
 mod counts;
 mod input;
-mod text;
+mod output;
+mod unpacking;
 
 use crate::counts::LONGEST;
 use crate::counts::all_of;
@@ -13,18 +14,18 @@ use crate::input::read_bytes;
 use crate::input::read_length;
 use crate::input::read_lengths;
 use crate::input::read_numbers;
-use crate::text::accepts;
-use crate::text::end_item;
-use crate::text::put_answer;
-use crate::text::put_byte;
-use crate::text::put_bytes;
-use crate::text::put_line;
-use crate::text::put_number;
-use crate::text::put_numbers;
-use crate::text::rest;
-use crate::text::rest_of_bytes;
+use crate::output::TEXT;
+use crate::output::accepts;
+use crate::output::end_item;
+use crate::output::flush;
+use crate::output::put_answer;
+use crate::output::put_first;
+use crate::output::put_hex_bytes;
+use crate::output::rest;
+use crate::output::rest_of_bytes;
+use crate::unpacking::unpack_item;
 use table::Answer;
-use table::Unpacked;
+use text::put_line;
 
 const MOST_BYTES: usize = 16_384;
 
@@ -34,9 +35,6 @@ const MOST_NUMBERS: usize = 6_150;
 const BEFORE: u64 = 7;
 
 const BEFORE_BYTE: u8 = 7;
-
-// The text of an item is gathered in so many bytes, and written out where no more than 96 are left.
-const TEXT: usize = 4_096;
 
 // ---- a table to analyse
 
@@ -52,7 +50,8 @@ fn put_rows(text: &mut [u8], before: usize, result: &[u64], used: usize) -> usiz
             return next;
         }
         let end = at + 6;
-        next = put_line(text, next, &result[at..end]);
+        let behind = flush(text, next);
+        next = put_line(text, behind, &result[at..end]);
         at = end;
     }
     next
@@ -62,9 +61,8 @@ fn put_analysed(answer: Answer, rows: usize, result: &[u64]) {
     let used = all_of(rows, 6);
     let mut text = [0u8; TEXT];
     let a = put_answer(&mut text, b'T', answer);
-    let b = put_byte(&mut text, a, b'\n');
-    let c = put_rows(&mut text, b, result, used);
-    end_item(&mut text, c, rest(result, used, 0));
+    let b = put_rows(&mut text, a, result, used);
+    end_item(&mut text, b, rest(result, used, 0));
 }
 
 fn analyse_to(bytes: &[u8], result: &mut [u64]) {
@@ -88,146 +86,14 @@ fn analyse_item() {
     analyse_first(&bytes, n, &mut result, room);
 }
 
-// ---- a table to unpack
-
-// A line for each list where the table is accepted; none on a refusal.
-fn put_lists(
-    text: &mut [u8],
-    at: usize,
-    u: Unpacked,
-    delays: &[u64],
-    systems: &[u64],
-    vls: &[u64],
-    streams: &[u64],
-    ports: &[u64],
-    hops: &[u64],
-) -> usize {
-    if !accepts(u.answer) {
-        return at;
-    }
-    let a = put_numbers(text, at, delays, 4);
-    let b = put_numbers(text, a, systems, u.systems);
-    let c = put_numbers(text, b, vls, all_of(u.vls, 4));
-    let d = put_numbers(text, c, streams, all_of(u.streams, 7));
-    let e = put_numbers(text, d, ports, all_of(u.ports, 3));
-    put_numbers(text, e, hops, all_of(u.hops, 3))
-}
-
-fn rest_of_lists(
-    u: Unpacked,
-    delays: &[u64],
-    systems: &[u64],
-    vls: &[u64],
-    streams: &[u64],
-    ports: &[u64],
-    hops: &[u64],
-) -> u64 {
-    let mut used = 0;
-    if accepts(u.answer) {
-        used = 4;
-    }
-    let a = rest(delays, used, 0);
-    let b = rest(systems, u.systems, a);
-    let c = rest(vls, all_of(u.vls, 4), b);
-    let d = rest(streams, all_of(u.streams, 7), c);
-    let e = rest(ports, all_of(u.ports, 3), d);
-    rest(hops, all_of(u.hops, 3), e)
-}
-
-fn put_unpacked(
-    u: Unpacked,
-    delays: &[u64],
-    systems: &[u64],
-    vls: &[u64],
-    streams: &[u64],
-    ports: &[u64],
-    hops: &[u64],
-) {
-    let others = rest_of_lists(u, delays, systems, vls, streams, ports, hops);
-    let mut text = [0u8; TEXT];
-    let a = put_answer(&mut text, b'U', u.answer);
-    let b = put_byte(&mut text, a, b'\n');
-    let c = put_lists(&mut text, b, u, delays, systems, vls, streams, ports, hops);
-    end_item(&mut text, c, others);
-}
-
-fn unpack_to(
-    bytes: &[u8],
-    delays: &mut [u64],
-    systems: &mut [u64],
-    vls: &mut [u64],
-    streams: &mut [u64],
-    ports: &mut [u64],
-    hops: &mut [u64],
-) {
-    let u = unpacker::unpack(bytes, delays, systems, vls, streams, ports, hops);
-    put_unpacked(u, delays, systems, vls, streams, ports, hops);
-}
-
-// The table is the first n bytes, and of each list the first numbers are lent.
-fn unpack_first(
-    bytes: &[u8],
-    n: usize,
-    rooms: [usize; 6],
-    delays: &mut [u64],
-    systems: &mut [u64],
-    vls: &mut [u64],
-    streams: &mut [u64],
-    ports: &mut [u64],
-    hops: &mut [u64],
-) {
-    let used = of_bytes(n, bytes);
-    let a = of_numbers(rooms[0], delays);
-    let b = of_numbers(rooms[1], systems);
-    let c = of_numbers(rooms[2], vls);
-    let d = of_numbers(rooms[3], streams);
-    let e = of_numbers(rooms[4], ports);
-    let f = of_numbers(rooms[5], hops);
-    unpack_to(
-        &bytes[..used],
-        &mut delays[..a],
-        &mut systems[..b],
-        &mut vls[..c],
-        &mut streams[..d],
-        &mut ports[..e],
-        &mut hops[..f],
-    );
-}
-
-fn unpack_item() {
-    let rooms = read_lengths();
-    let n = read_length(MOST_BYTES);
-    let mut bytes = [0u8; MOST_BYTES];
-    read_bytes(&mut bytes, n);
-    let mut delays = [BEFORE; 8];
-    let mut systems = [BEFORE; 66];
-    let mut vls = [BEFORE; 1_030];
-    let mut streams = [BEFORE; LONGEST];
-    let mut ports = [BEFORE; 390];
-    let mut hops = [BEFORE; 3_080];
-    unpack_first(
-        &bytes,
-        n,
-        rooms,
-        &mut delays,
-        &mut systems,
-        &mut vls,
-        &mut streams,
-        &mut ports,
-        &mut hops,
-    );
-}
-
 // ---- lists to write
 
 fn put_written(answer: Answer, n: usize, out: &[u8]) {
+    let numbers = [answer.number, answer.section, answer.row, n as u64];
     let mut text = [0u8; TEXT];
-    let a = put_answer(&mut text, b'W', answer);
-    let b = put_byte(&mut text, a, b' ');
-    let c = put_number(&mut text, b, n as u64);
-    let d = put_byte(&mut text, c, b'\n');
-    let e = put_bytes(&mut text, d, accepts(answer), out, n);
-    end_item(&mut text, e, rest_of_bytes(out, n));
+    let a = put_first(&mut text, b'W', &numbers);
+    let b = put_hex_bytes(&mut text, a, accepts(answer), out, n);
+    end_item(&mut text, b, rest_of_bytes(out, n));
 }
 
 fn write_from(

@@ -1,7 +1,13 @@
 // Reads a packed table from standard input and writes its result rows, or the word refused with number, section and row.
-// All that matters is in `analysis`; here is only what reads and prints.
+// All that matters is in `analysis`; here is what reads, and what prints: each line is proved to be its numbers in decimal.
 use libc::STDIN_FILENO;
 use libc::STDOUT_FILENO;
+ghost use mathlib.Core.List.{_++_};
+ghost use mathlib.Core.Path.{_≡_};
+ghost use Prim.Native.Nat.{_+_, _*_, _≤_};
+ghost use lib.ListN.{length, take, drop};
+ghost use Rattle.text.specs.Text.{line};
+ghost use Rattle.latency.specs.Words.{refused};
 
 // One byte more than the longest table, so that a longer one is seen to be too long.
 const MOST_BYTES: usize = 12_111;
@@ -14,45 +20,35 @@ const MOST_NUMBERS: usize = 6_144;
 // The longest line: six numbers of at most twenty digits, five spaces and the line's end.
 const LINE: usize = 126;
 
-// Each puts something at a place of a line, if there is room, and answers the place behind it.
-fn put_byte(line: &mut [u8], at: usize, byte: u8) -> usize {
-    if line.len() <= at {
-        return at;
-    }
-    line[at] = byte;
-    at + 1
+fn write_line(line: &[u8], used: usize)
+    requires { ⌜ used ≤ length (now line) ⌝ }
+{
+    io::write_all(STDOUT_FILENO, &line[..used]);
 }
 
-fn put_number(line: &mut [u8], at: usize, n: u64) -> usize {
-    let mut digits = [0u8; 20];
-    let count = io::decimal(n, &mut digits);
-    let mut next = at;
-    let mut i = 0;
-    while i < 20 {
-        if count <= i {
-            return next;
-        }
-        next = put_byte(line, next, digits[i]);
-        i += 1;
-    }
-    next
+// The line of a refusal.
+fn refusal_line(values: &[u64; 3], out: &mut [u8; LINE]) -> usize
+    requires { ⌜ (length (now values) ≡ 3) × (length (now out) ≡ 126) ⌝ }
+    ensures { λ r. ⌜ (take r (now (out .exit)) ≡ refused ++ line (now (values .entry))) × (r ≤ 126) × (length (now (out .exit)) ≡ 126) ⌝ }
+{
+    let behind = text::put_bytes(out, 0, b"refused ");
+    text::put_line(out, behind, values)
 }
 
-fn write_line(line: &[u8], used: usize) {
-    if used <= line.len() {
-        io::write_all(STDOUT_FILENO, &line[..used]);
-    }
+// The line of row i.
+fn row_line(numbers: &[u64], i: usize, out: &mut [u8; LINE]) -> usize
+    requires { ⌜ (i * 6 + 6 ≤ length (now numbers)) × (length (now out) ≡ 126) ⌝ }
+    ensures { λ r. ⌜ (take r (now (out .exit)) ≡ line (take 6 (drop (i * 6) (now (numbers .entry))))) × (r ≤ 126) × (length (now (out .exit)) ≡ 126) ⌝ }
+{
+    let start = i * 6;
+    let end = start + 6;
+    text::put_line(out, 0, &numbers[start..end])
 }
 
 fn refusal(number: u64, section: u64, row: u64) {
-    io::write_all(STDOUT_FILENO, b"refused ");
+    let values = [number, section, row];
     let mut line = [0u8; LINE];
-    let a = put_number(&mut line, 0, number);
-    let b = put_byte(&mut line, a, b' ');
-    let c = put_number(&mut line, b, section);
-    let d = put_byte(&mut line, c, b' ');
-    let e = put_number(&mut line, d, row);
-    let used = put_byte(&mut line, e, b'\n');
+    let used = refusal_line(&values, &mut line);
     write_line(&line, used);
 }
 
@@ -61,14 +57,7 @@ fn row(numbers: &[u64; MOST_NUMBERS], i: usize) {
         return;
     }
     let mut line = [0u8; LINE];
-    let mut used = put_number(&mut line, 0, numbers[i * 6]);
-    let mut k = 1;
-    while k < 6 {
-        used = put_byte(&mut line, used, b' ');
-        used = put_number(&mut line, used, numbers[i * 6 + k]);
-        k += 1;
-    }
-    used = put_byte(&mut line, used, b'\n');
+    let used = row_line(numbers, i, &mut line);
     write_line(&line, used);
 }
 
