@@ -2,7 +2,7 @@
 -- Assumes nothing.
 use Prim.Native.Nat.{ℕ, zero, suc, _+_}
 use mathlib.Core.Bool.{false, cond, _&&_}
-use mathlib.Core.List.{List, [], _∷_, List·Memᴰ, List·Memᴰ·head}
+use mathlib.Core.List.{List, [], _∷_, List·Memᴰ·head}
 use mathlib.Core.Option.{Option, none, some}
 use mathlib.Core.Path.{_≡_, refl}
 use native.Mathlib.Omega.{arith}
@@ -22,7 +22,7 @@ use Rattle.machine.specs.Pool.{landed}
 use Rattle.machine.specs.Queue.{Queue}
 use Rattle.machine.specs.Fifo as Fifo
 use Rattle.machine.specs.Messages.{Release, Message, Packet, Frame, messages}
-use Rattle.machine.specs.Machine.{State, Run, released, leaves, setsOut, reaches, complete, hands, allSending, state}
+use Rattle.machine.specs.Machine.{State, Run, released, delivered, setsOut, reaches, complete, hands, allSending, state}
 use Rattle.machine.specs.Permitted.{PermittedBelow}
 use Rattle.machine.proofs.Parts.{queue, handed, fifo, fifo-out, pool, lands}
 
@@ -188,9 +188,9 @@ pub port-1-lands : reaches two 173 (r .choice 173) (state two r 173) 1 ≡ recor
 unfolding state hopsOn passing
 port-1-lands = refl
 
-pub leaves-hop-1 : leaves two 257 (r .choice 257) (state two r 257) 1 ≡ frame 2 ∷ []
+pub delivered-by-hop-1 : delivered two 257 (r .choice 257) (state two r 257) 1 ≡ frame 2 ∷ []
 unfolding state
-leaves-hop-1 = refl
+delivered-by-hop-1 = refl
 
 -- a switch delay of 10 ticks, where 9 is the greatest, is not permitted
 pub not-10 : PermittedBelow two (over-two 10) 87 → ⊥

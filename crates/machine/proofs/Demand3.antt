@@ -15,7 +15,7 @@ use Rattle.rows.specs.Rows.{worst, best}
 use Rattle.station.specs.Station.{brought, busyLength, figure}
 use Rattle.station.proofs.Facts.{is-attained}
 use Rattle.machine.specs.Sound.{Sound, Has, Busy}
-use Rattle.machine.specs.Demand3.{Complete, Reaches, No-later, No-earlier, No-longer, Reached, Nothing-cut-off, Demand-3}
+use Rattle.machine.specs.Demand3.{Complete, Reaches, No-later, No-earlier, No-longer, Reached, Nothing-cut-off, Demand-3-over-networks}
 use Rattle.machine.proofs.Cases.{both}
 use Rattle.machine.proofs.Select.{is-passing}
 use Rattle.machine.proofs.Told.{was-message, packets-pos}
@@ -85,8 +85,8 @@ module _ (net : Network) (sound : Sound net) (busy : Busy net) where
       let c : queueFlow net s .cost ≤ queueStation net v k = cost-covered (queueFlow net) s (queueStation net v k) (streamsOn net v k) listed (queue-covers net sound busy v k 0) in
       omega (arith, c, gap-in-cost s h)
 
-pub demand-3 : Demand-3
-demand-3 net sound busy = record {
+pub demand-3-over-networks : Demand-3-over-networks
+demand-3-over-networks net sound busy = record {
   no-later = later net sound busy;
   no-earlier = earlier net sound busy;
   no-longer = longer net sound busy;

@@ -11,7 +11,7 @@ use Rattle.station.specs.Station.{most}
 use Rattle.machine.specs.Sum.{span}
 use Rattle.machine.specs.Pool.{landed}
 use Rattle.machine.specs.Messages.{Release, Message, Frame}
-use Rattle.machine.specs.Machine.{Run, released, leaves, setsOut, reaches, allSending, state}
+use Rattle.machine.specs.Machine.{Run, released, delivered, setsOut, reaches, allSending, state}
 use Rattle.machine.specs.Permitted.{streamFlow, Sized, releasedBy, Permitted}
 use Rattle.machine.proofs.Told.{was-message}
 
@@ -34,9 +34,9 @@ module _ (net : Network) where
         (t h : ℕ) (f : Frame) → h < length (net .hops) → List·Memᴰ f (setsOut net t (r .choice t) (state net r t) h)
         → r .choice t .flight h f ≤ portAt net (hopAt net h .port) .delayGreatest
     pub receive-least :
-        (t h : ℕ) (f : Frame) → leaf net h ≡ true → List·Memᴰ f (leaves net t (r .choice t) (state net r t) h) → net .receiveLeast ≤ r .choice t .receive h f
+        (t h : ℕ) (f : Frame) → leaf net h ≡ true → List·Memᴰ f (delivered net t (r .choice t) (state net r t) h) → net .receiveLeast ≤ r .choice t .receive h f
     pub receive-greatest :
-        (t h : ℕ) (f : Frame) → leaf net h ≡ true → List·Memᴰ f (leaves net t (r .choice t) (state net r t) h) → r .choice t .receive h f ≤ net .receiveGreatest
+        (t h : ℕ) (f : Frame) → leaf net h ≡ true → List·Memᴰ f (delivered net t (r .choice t) (state net r t) h) → r .choice t .receive h f ≤ net .receiveGreatest
 
   pub permitted : (r : Run) → Endless r → Permitted net r
   permitted r e n = record {

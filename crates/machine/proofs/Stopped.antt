@@ -17,7 +17,7 @@ use Rattle.station.specs.Station.{most}
 use Rattle.machine.specs.Sum.{span, count}
 use Rattle.machine.specs.Pool.{landed}
 use Rattle.machine.specs.Messages.{Release, Message, Packet, Frame, messages, vlOf}
-use Rattle.machine.specs.Machine.{State, Choice, Run, released, leaves, setsOut, reaches, complete, hands, allSending, step, start, state}
+use Rattle.machine.specs.Machine.{State, Choice, Run, released, delivered, setsOut, reaches, complete, hands, allSending, step, start, state}
 use Rattle.machine.specs.Permitted.{streamFlow, releasedBy, PermittedBelow}
 use Rattle.machine.specs.Sound.{Sound}
 use Rattle.machine.specs.Demand3.{Complete, Hands}
@@ -130,9 +130,9 @@ module _ (net : Network) (sound : Sound net) (r : Run) (n : ℕ) (per : Permitte
         (λ t i. per .flight-least t h f i l) (λ t i k. le-refl (portAt net (hopAt net h .port) .delayLeast)) t;
     flight-greatest = λ t h f l. each (λ t ms c s. List·Memᴰ f (setsOut net t c s h) → c .flight h f ≤ portAt net (hopAt net h .port) .delayGreatest)
         (λ t i. per .flight-greatest t h f i l) (λ t i k. sound .port-delay (hopAt net h .port) (sound .references .hop-port h l)) t;
-    receive-least = λ t h f l. each (λ t ms c s. List·Memᴰ f (leaves net t c s h) → net .receiveLeast ≤ c .receive h f)
+    receive-least = λ t h f l. each (λ t ms c s. List·Memᴰ f (delivered net t c s h) → net .receiveLeast ≤ c .receive h f)
         (λ t i. per .receive-least t h f i l) (λ t i k. le-refl (net .receiveLeast)) t;
-    receive-greatest = λ t h f l. each (λ t ms c s. List·Memᴰ f (leaves net t c s h) → c .receive h f ≤ net .receiveGreatest)
+    receive-greatest = λ t h f l. each (λ t ms c s. List·Memᴰ f (delivered net t c s h) → c .receive h f ≤ net .receiveGreatest)
         (λ t i. per .receive-greatest t h f i l) (λ t i k. sound .receive) t;
   }
 

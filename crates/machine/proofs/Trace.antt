@@ -14,7 +14,7 @@ use Rattle.machine.specs.Mux as Mux
 use Rattle.machine.specs.Fifo.{Fifo, ended}
 use Rattle.machine.specs.Fifo as Fifo
 use Rattle.machine.specs.Messages.{Message, Packet, Frame, Copy, toLane, endCost, portCost, framed, ofVl, ofHop}
-use Rattle.machine.specs.Machine.{State, Choice, Run, state, start, leaves, setsOut, allFlying, complete, hands, released}
+use Rattle.machine.specs.Machine.{State, Choice, Run, state, start, delivered, setsOut, allFlying, complete, hands, released}
 use Rattle.machine.proofs.Parts.{pool, lands, queue, handed, mux, mux-out, fifo, fifo-out}
 
 module _ (net : Network) (r : Run) where
@@ -91,7 +91,7 @@ module _ (net : Network) (r : Run) where
   into h t = ofHop h (ch t .enter (hopAt net h .port))
 
   abbrev pub left : ℕ → ℕ → List Frame
-  left h t = leaves net t (ch t) (st t) h
+  left h t = delivered net t (ch t) (st t) h
 
   pub left-is : (h t : ℕ) → ofHop h (fifo-out (portCost net (hopAt net h .port)) (λ u. ch u .enter (hopAt net h .port)) t) ≡ left h t
   unfolding fifo-out

@@ -1,4 +1,4 @@
--- Demand 3, as one statement over any sound network whose busy lengths exist. It is proved in proofs/Demand3.antt, `demand-3 : Demand-3`.
+-- Demand 3, as one statement over any sound network whose busy lengths exist. It is proved in proofs/Demand3.antt, `demand-3-over-networks`.
 -- Assumes nothing.
 use Prim.Native.Nat.{ℕ, suc, _+_, _≤_, _<_}
 use mathlib.Core.Bool.{true}
@@ -125,5 +125,5 @@ module _ (net : Network) where
     pub nothing-cut-off : Nothing-cut-off
     pub runs : Runs
 
-abbrev pub Demand-3 : Type 0
-Demand-3 = (net : Network) → Sound net → Busy net → Holds net
+abbrev pub Demand-3-over-networks : Type 0
+Demand-3-over-networks = (net : Network) → Sound net → Busy net → Holds net

@@ -55,13 +55,13 @@ module _ (net : Network) where
   module _ (t : ℕ) (c : Choice) (s : State) where
     -- ---- ends of sending
     -- the frames that leave hop h, sent whole by its port
-    abbrev pub leaves : ℕ → List Frame
-    leaves h = ofHop h (ended t (s .port (hopAt net h .port) .link))
+    abbrev pub delivered : ℕ → List Frame
+    delivered h = ofHop h (ended t (s .port (hopAt net h .port) .link))
 
     -- "A frame sent whole by the end system goes to every hop of its VL without parent, one sent whole by a port to every hop whose parent is that hop."
     abbrev pub setsFrom : ℕ → Option ℕ → List Frame
     setsFrom v none = ofVl v (ended t (s .end (vlAt net v .system) .link))
-    setsFrom v (some g) = leaves g
+    setsFrom v (some g) = delivered g
 
     abbrev pub setsOut : ℕ → List Frame
     setsOut h = setsFrom (hopAt net h .vl) (hopAt net h .parent)
@@ -72,7 +72,7 @@ module _ (net : Network) where
     allFlying h = s .flying h ++ setOut t (c .flight h) (setsOut h)
 
     abbrev pub allReceiving : ℕ → List (Due Frame)
-    allReceiving h = s .receiving h ++ setOut t (c .receive h) (cond (leaf net h) (leaves h) [])
+    allReceiving h = s .receiving h ++ setOut t (c .receive h) (cond (leaf net h) (delivered h) [])
 
     -- "It reaches each such port's FIFO after a permitted switch delay of its own": what reaches port p, from each hop on it
     abbrev pub reaches : ℕ → List Copy

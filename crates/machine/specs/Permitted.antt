@@ -13,7 +13,7 @@ use Rattle.station.specs.Station.{most}
 use Rattle.machine.specs.Sum.{span, count}
 use Rattle.machine.specs.Pool.{landed}
 use Rattle.machine.specs.Messages.{Release, Message, Frame}
-use Rattle.machine.specs.Machine.{Run, released, leaves, setsOut, reaches, allSending, state}
+use Rattle.machine.specs.Machine.{Run, released, delivered, setsOut, reaches, allSending, state}
 
 -- a stream as a flow of its own T and J
 abbrev pub streamFlow : Network → ℕ → Flow
@@ -49,10 +49,10 @@ module _ (net : Network) where
         → r .choice t .flight h f ≤ portAt net (hopAt net h .port) .delayGreatest
     -- "A hop that is nobody's parent leads to the receive delay."
     pub receive-least :
-        (t h : ℕ) (f : Frame) → t < n → leaf net h ≡ true → List·Memᴰ f (leaves net t (r .choice t) (state net r t) h)
+        (t h : ℕ) (f : Frame) → t < n → leaf net h ≡ true → List·Memᴰ f (delivered net t (r .choice t) (state net r t) h)
         → net .receiveLeast ≤ r .choice t .receive h f
     pub receive-greatest :
-        (t h : ℕ) (f : Frame) → t < n → leaf net h ≡ true → List·Memᴰ f (leaves net t (r .choice t) (state net r t) h)
+        (t h : ℕ) (f : Frame) → t < n → leaf net h ≡ true → List·Memᴰ f (delivered net t (r .choice t) (state net r t) h)
         → r .choice t .receive h f ≤ net .receiveGreatest
 
   -- permitted however long it goes on
