@@ -13,20 +13,11 @@ returns c = sym (too-wide _ _ _ (omega arith))
 returns-2 : tie.Need-returns-2
 returns-2 c = sym (too-long _ _ _ (omega arith))
 
-mul-if3 : tie.Need-mul-if3
-mul-if3 c = search needs
-
 returns-3 : tie.Need-returns-3
 returns-3 c = sym (too-short _ _ _ (omega arith) (omega arith) (omega arith))
-
-mul-result : tie.Need-mul-result
-mul-result c = search needs
-
-sub-result : tie.Need-sub-result
-sub-result c = search needs
 
 returns-4 : tie.Need-returns-4
 returns-4 c = last-place _ _ _ _ (omega arith) (omega arith) (omega arith) (omega arith)
 
 pub has-room-spec : {M : Type 1} → statement M
-has-room-spec = tie.close (tie.spec returns returns-2 mul-if3 returns-3 mul-result sub-result returns-4)
+has-room-spec = tie.close (tie.spec returns returns-2 (λ c. search needs) returns-3 (λ c. search needs) (λ c. search needs) returns-4)

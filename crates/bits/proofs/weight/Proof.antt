@@ -6,11 +6,8 @@ use borrow.Author.Needs.{needs}
 use Rattle.bits.proofs.weight.Statement.{statement}
 use Rattle.bits.proofs.weight.Tie as tie
 
-shl-result : tie.Need-shl-result
-shl-result c = search needs
-
 returns : tie.Need-returns
 returns c = omega (arith, pow-mono {i = c .args .p} {j = 7} (omega arith))
 
 pub weight-spec : {M : Type 1} → statement M
-weight-spec = tie.close (tie.spec shl-result returns)
+weight-spec = tie.close (tie.spec (λ c. search needs) returns)

@@ -17,9 +17,6 @@ whole : (c : tie.After-weight) →
 unfolding withDigit
 whole c = let a = c .before .args in rw (c .weight .ensures) (digit-lt 8 (a .x) (a .p) (a .b) (omega arith) (omega arith) (omega arith))
 
-weight-requires : tie.Need-weight-requires
-weight-requires c κs = search needs
-
 div-result : tie.Need-div-result
 div-result c = rw (c .weight .ensures) (pow-pos (c .before .args .p))
 
@@ -47,4 +44,4 @@ returns c = rw (c .weight .ensures)
 
 pub with-digit-spec : {M : Type 1} → statement M
 with-digit-spec =
-    tie.close (tie.spec weight-requires div-result mul-result add-result mul-result-2 rem-result add-result-2 cast-result returns)
+    tie.close (tie.spec (λ c κs. search needs) div-result mul-result add-result mul-result-2 rem-result add-result-2 cast-result returns)

@@ -7,12 +7,6 @@ use Rattle.frame.proofs.ReplyLaws.{gives, refuses}
 use Rattle.frame.proofs.gap_of.Statement.{statement}
 use Rattle.frame.proofs.gap_of.Tie as tie
 
-mul-t6 : tie.Need-mul-t6
-mul-t6 c = search needs
-
-array-read-t9 : tie.Need-array-read-t9
-array-read-t9 c = search needs
-
 returns : tie.Need-returns
 unfolding gaps
 returns c = gives _ _ (gap-given _ (c .if1 .taken))
@@ -21,4 +15,4 @@ returns-2 : tie.Need-returns-2
 returns-2 c = refuses _ (gap-refused _ (c .if1 .left))
 
 pub gap-of-spec : {M : Type 1} → statement M
-gap-of-spec = tie.close (tie.spec mul-t6 array-read-t9 returns returns-2)
+gap-of-spec = tie.close (tie.spec (λ c. search needs) (λ c. search needs) returns returns-2)

@@ -10,9 +10,6 @@ use Rattle.frame.proofs.ReplyLaws.{gives, refuses}
 use Rattle.frame.proofs.largest_line.Statement.{statement}
 use Rattle.frame.proofs.largest_line.Tie as tie
 
-add-t4 : tie.Need-add-t4
-add-t4 c = search needs
-
 returns : tie.Need-returns
 returns c = gives _ _ (largest-line-given _ (omega arith) (omega arith) ∙ ap some (largest-line-is _))
 
@@ -23,4 +20,4 @@ returns-3 : tie.Need-returns-3
 returns-3 c = refuses _ (largest-line-refused _ (inr (omega arith)))
 
 pub largest-line-spec : {M : Type 1} → statement M
-largest-line-spec = tie.close (tie.spec add-t4 returns returns-2 returns-3)
+largest-line-spec = tie.close (tie.spec (λ c. search needs) returns returns-2 returns-3)

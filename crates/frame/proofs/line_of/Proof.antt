@@ -8,9 +8,6 @@ use Rattle.frame.proofs.ReplyLaws.{gives, refuses}
 use Rattle.frame.proofs.line_of.Statement.{statement}
 use Rattle.frame.proofs.line_of.Tie as tie
 
-add-t4 : tie.Need-add-t4
-add-t4 c = search needs
-
 returns : tie.Need-returns
 returns c = gives _ _ (line-small _ (omega arith) (omega arith))
 
@@ -24,4 +21,4 @@ returns-4 : tie.Need-returns-4
 returns-4 c = refuses _ (line-refused _ (inr (omega (arith, protocol-overhead-is, greatest-frame-is))))
 
 pub line-of-spec : {M : Type 1} → statement M
-line-of-spec = tie.close (tie.spec add-t4 returns returns-2 returns-3 returns-4)
+line-of-spec = tie.close (tie.spec (λ c. search needs) returns returns-2 returns-3 returns-4)

@@ -10,9 +10,6 @@ use Rattle.frame.proofs.ReplyLaws.{gives, refuses}
 use Rattle.frame.proofs.ms_of.Statement.{statement}
 use Rattle.frame.proofs.ms_of.Tie as tie
 
-shl-t4 : tie.Need-shl-t4
-shl-t4 c = search needs
-
 returns : tie.Need-returns
 returns c =
     let low = c .if1 .taken in
@@ -22,4 +19,4 @@ returns-2 : tie.Need-returns-2
 returns-2 c = refuses _ (ms-refused _ (c .if1 .left))
 
 pub ms-of-spec : {M : Type 1} → statement M
-ms-of-spec = tie.close (tie.spec shl-t4 returns returns-2)
+ms-of-spec = tie.close (tie.spec (λ c. search needs) returns returns-2)

@@ -10,18 +10,6 @@ use Rattle.frame.proofs.ReplyLaws.{gives, refuses}
 use Rattle.frame.proofs.packets_of.Statement.{statement}
 use Rattle.frame.proofs.packets_of.Tie as tie
 
-sub-full : tie.Need-sub-full
-sub-full c = search needs
-
-sub-t8 : tie.Need-sub-t8
-sub-t8 c = search needs
-
-add-t9 : tie.Need-add-t9
-add-t9 c = search needs
-
-div-t10 : tie.Need-div-t10
-div-t10 c = search needs
-
 returns : tie.Need-returns
 returns c = gives _ _ (packets-given _ _ (omega arith) (omega arith) (omega arith) (omega arith) ∙ ap some (packets-is _ _))
 
@@ -38,4 +26,4 @@ returns-5 : tie.Need-returns-5
 returns-5 c = refuses _ (packets-frame-refused _ _ (inr (omega arith)))
 
 pub packets-of-spec : {M : Type 1} → statement M
-packets-of-spec = tie.close (tie.spec sub-full sub-t8 add-t9 div-t10 returns returns-2 returns-3 returns-4 returns-5)
+packets-of-spec = tie.close (tie.spec (λ c. search needs) (λ c. search needs) (λ c. search needs) (λ c. search needs) returns returns-2 returns-3 returns-4 returns-5)

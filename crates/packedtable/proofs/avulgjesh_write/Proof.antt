@@ -5,15 +5,9 @@ use Rattle.packedtable.specs.Answers.{writeSaid}
 use Rattle.packedtable.proofs.avulgjesh_write.Statement.{statement}
 use Rattle.packedtable.proofs.avulgjesh_write.Tie as tie
 
-write-requires : tie.Need-write-requires
-write-requires c κs = search needs
-
-same-length : tie.Need-same-length
-same-length c = search needs
-
 returns : tie.Need-returns
 unfolding writeSaid
 returns c = c .before .before .before .write .ensures
 
 pub avulgjesh-write-spec : {M : Type 1} → statement M
-avulgjesh-write-spec = tie.close (tie.spec write-requires same-length returns)
+avulgjesh-write-spec = tie.close (tie.spec (λ c κs. search needs) (λ c. search needs) returns)

@@ -21,12 +21,6 @@ three-at c = c .before .before .before .before .before .before .before .before
 abbrev two-at : tie.After-slice-known12 → tie.After-fill-two
 two-at c = c .before .before .before .before
 
-judge-requires : tie.Need-judge-requires
-judge-requires c κs = search needs
-
-array-read-fill-delays : tie.Need-array-read-fill-delays
-array-read-fill-delays c = search needs
-
 fill-delays-requires : tie.Need-fill-delays-requires
 fill-delays-requires c κs =
     let j = judged-at c in
@@ -41,39 +35,6 @@ fill-two-requires : tie.Need-fill-two-requires
 fill-two-requires c κs =
     let j = judged-at (delays-at (three-at c .before) .before) in
     two (start-at j .args .table .now) _ (j .judge .result) (j .judge .ensures)
-
-array-read-t19 : tie.Need-array-read-t19
-array-read-t19 c = search needs
-
-array-read-t15 : tie.Need-array-read-t15
-array-read-t15 c = search needs
-
-array-read-t16 : tie.Need-array-read-t16
-array-read-t16 c = search needs
-
-array-read-t14 : tie.Need-array-read-t14
-array-read-t14 c = search needs
-
-array-read-t18 : tie.Need-array-read-t18
-array-read-t18 c = search needs
-
-same-length : tie.Need-same-length
-same-length c = search needs
-
-same-length-2 : tie.Need-same-length-2
-same-length-2 c = search needs
-
-same-length-3 : tie.Need-same-length-3
-same-length-3 c = search needs
-
-same-length-4 : tie.Need-same-length-4
-same-length-4 c = search needs
-
-same-length-5 : tie.Need-same-length-5
-same-length-5 c = search needs
-
-same-length-6 : tie.Need-same-length-6
-same-length-6 c = search needs
 
 returns : tie.Need-returns
 returns c =
@@ -93,20 +54,20 @@ pub unpack-spec : {M : Type 1} → statement M
 unpack-spec =
     tie.close
     (tie.spec
-    judge-requires
-    array-read-fill-delays
+    (λ c κs. search needs)
+    (λ c. search needs)
     fill-delays-requires
     fill-three-requires
     fill-two-requires
-    array-read-t19
-    array-read-t15
-    array-read-t16
-    array-read-t14
-    array-read-t18
-    same-length
-    same-length-2
-    same-length-3
-    same-length-4
-    same-length-5
-    same-length-6
+    (λ c. search needs)
+    (λ c. search needs)
+    (λ c. search needs)
+    (λ c. search needs)
+    (λ c. search needs)
+    (λ c. search needs)
+    (λ c. search needs)
+    (λ c. search needs)
+    (λ c. search needs)
+    (λ c. search needs)
+    (λ c. search needs)
     returns)

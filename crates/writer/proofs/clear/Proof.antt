@@ -15,23 +15,8 @@ Inv-loop out₀ n k₀ out k = (k ≤ n) × (length out ≡ n) × (take k out �
 abbrev μ-loop : tie.MeasureT-loop
 μ-loop out₀ n k₀ out k = n - k
 
-loop-holds : tie.Need-loop-holds Inv-loop μ-loop
-loop-holds c = search needs
-
-slice-write-out : tie.Need-slice-write-out Inv-loop μ-loop
-slice-write-out c = search needs
-
-add-k : tie.Need-add-k Inv-loop μ-loop
-add-k c = search needs
-
-loop-less : tie.Need-loop-less Inv-loop μ-loop
-loop-less c = search needs
-
 loop-again : tie.Need-loop-again Inv-loop μ-loop
 loop-again c = (omega arith, simp length-set (omega arith), cleared-more _ (c .before .loop .k) (omega arith) (c .before .loop .inv .2))
-
-same-length : tie.Need-same-length Inv-loop μ-loop
-same-length c = search needs
 
 returns : tie.Need-returns Inv-loop μ-loop
 returns c =
@@ -44,10 +29,10 @@ clear-spec =
     (tie.spec
     Inv-loop
     μ-loop
-    loop-holds
-    slice-write-out
-    add-k
-    loop-less
+    (λ c. search needs)
+    (λ c. search needs)
+    (λ c. search needs)
+    (λ c. search needs)
     loop-again
-    same-length
+    (λ c. search needs)
     returns)

@@ -46,9 +46,6 @@ put-late-requires c κs =
     let at2 = c .before .before .before .put-early .ensures .0 in
     record { inside = omega arith; short = omega (arith, s .pre .short) }
 
-same-length : tie.Need-same-length
-same-length c = search needs
-
 returns : tie.Need-returns
 returns c =
     let s = c .before .before .before .before .before .before .before .before .before .before .before .before .before .before .before .before .before .before .before in
@@ -63,4 +60,4 @@ returns c =
 pub fill-spec : {M : Type 1} → statement M
 fill-spec =
     tie.close
-    (tie.spec put-header-requires put-early-requires put-late-requires same-length returns)
+    (tie.spec put-header-requires put-early-requires put-late-requires (λ c. search needs) returns)

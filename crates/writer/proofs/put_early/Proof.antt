@@ -6,15 +6,6 @@ use borrow.Author.Needs.{needs}
 use Rattle.writer.proofs.put_early.Statement.{statement}
 use Rattle.writer.proofs.put_early.Tie as tie
 
-put-section-requires : tie.Need-put-section-requires
-put-section-requires c κs = search needs
-
-put-section-requires-2 : tie.Need-put-section-requires-2
-put-section-requires-2 c κs = search needs
-
-same-length : tie.Need-same-length
-same-length c = search needs
-
 returns : tie.Need-returns
 returns c =
     let vls = c .before .before .before .before .before .before .before .before .before .before .before .args .vls .now in
@@ -24,4 +15,4 @@ returns c =
 
 pub put-early-spec : {M : Type 1} → statement M
 put-early-spec =
-    tie.close (tie.spec put-section-requires put-section-requires-2 same-length returns)
+    tie.close (tie.spec (λ c κs. search needs) (λ c κs. search needs) (λ c. search needs) returns)

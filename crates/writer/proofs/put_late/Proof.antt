@@ -6,18 +6,6 @@ use borrow.Author.Needs.{needs}
 use Rattle.writer.proofs.put_late.Statement.{statement}
 use Rattle.writer.proofs.put_late.Tie as tie
 
-put-section-requires : tie.Need-put-section-requires
-put-section-requires c κs = search needs
-
-put-section-requires-2 : tie.Need-put-section-requires-2
-put-section-requires-2 c κs = search needs
-
-put-section-requires-3 : tie.Need-put-section-requires-3
-put-section-requires-3 c κs = search needs
-
-same-length : tie.Need-same-length
-same-length c = search needs
-
 returns : tie.Need-returns
 returns c =
     let a = c .before .before .before .before .before .before .before .before .before .before .before .before .before .before .before .before .args in
@@ -31,8 +19,8 @@ pub put-late-spec : {M : Type 1} → statement M
 put-late-spec =
     tie.close
     (tie.spec
-    put-section-requires
-    put-section-requires-2
-    put-section-requires-3
-    same-length
+    (λ c κs. search needs)
+    (λ c κs. search needs)
+    (λ c κs. search needs)
+    (λ c. search needs)
     returns)

@@ -8,21 +8,6 @@ use borrow.Author.Needs.{needs}
 use Rattle.writer.proofs.put_record.Statement.{statement}
 use Rattle.writer.proofs.put_record.Tie as tie
 
-list-row-requires : tie.Need-list-row-requires
-list-row-requires c κs = search needs
-
-converted-row-requires : tie.Need-converted-row-requires
-converted-row-requires c κs = search needs
-
-mul-put-row : tie.Need-mul-put-row
-mul-put-row c = search needs
-
-put-row-requires : tie.Need-put-row-requires
-put-row-requires c κs = search needs
-
-same-length : tie.Need-same-length
-same-length c = search needs
-
 returns : tie.Need-returns
 unfolding listStored
 returns c =
@@ -37,9 +22,9 @@ pub put-record-spec : {M : Type 1} → statement M
 put-record-spec =
     tie.close
     (tie.spec
-    list-row-requires
-    converted-row-requires
-    mul-put-row
-    put-row-requires
-    same-length
+    (λ c κs. search needs)
+    (λ c κs. search needs)
+    (λ c. search needs)
+    (λ c κs. search needs)
+    (λ c. search needs)
     returns)

@@ -31,12 +31,6 @@ room c =
     (room-for (a .list .now) (a .section) (a .at) (a .out .now) (countIn (a .list .now) (a .section)) (c .before .loop .i) (s .pre)
     (omega (arith, c .before .before .before .records-in .ensures)))
 
-records-in-requires : tie.Need-records-in-requires Inv-loop μ-loop
-records-in-requires c κs = search needs
-
-bytes-in-requires : tie.Need-bytes-in-requires Inv-loop μ-loop
-bytes-in-requires c κs = search needs
-
 loop-holds : tie.Need-loop-holds Inv-loop μ-loop
 loop-holds c = (omega arith, put-none _ _ _ _)
 
@@ -54,12 +48,6 @@ put-record-requires c κs =
       record { known = s .pre .known; inside = omega (arith, c .before .before .before .before .records-in .ensures) },
       record { known = s .pre .known; inside = omega arith; short = omega (arith, s .pre .short) },
     )
-
-add-i : tie.Need-add-i Inv-loop μ-loop
-add-i c = search needs
-
-loop-less : tie.Need-loop-less Inv-loop μ-loop
-loop-less c = search needs
 
 loop-again : tie.Need-loop-again Inv-loop μ-loop
 loop-again c =
@@ -95,14 +83,14 @@ put-section-spec =
     (tie.spec
     Inv-loop
     μ-loop
-    records-in-requires
-    bytes-in-requires
+    (λ c κs. search needs)
+    (λ c κs. search needs)
     loop-holds
     mul-put-record
     add-put-record
     put-record-requires
-    add-i
-    loop-less
+    (λ c. search needs)
+    (λ c. search needs)
     loop-again
     mul-result
     add-result

@@ -52,15 +52,6 @@ zeros c =
     ∙ zeros-before (length (start c .args .out .now)) (c .table-bytes .result) (fits c)
     ∙ ap (λ (n : ℕ). replicate n 0) (sized c)
 
-clear-requires : tie.Need-clear-requires
-clear-requires c κs = search needs
-
-refusal-requires : tie.Need-refusal-requires
-refusal-requires c κs = search needs
-
-table-bytes-requires : tie.Need-table-bytes-requires
-table-bytes-requires c κs = search needs
-
 slice-relend-prefix-fill : tie.Need-slice-relend-prefix-fill
 slice-relend-prefix-fill c = omega (arith, fits c, c .before .before .before .before .before .clear .kept .0)
 
@@ -71,9 +62,6 @@ fill-requires : tie.Need-fill-requires
 fill-requires c κs =
     let p = passed (c .before) in
     record { delays = p .0; clear = zeros (c .before); short = short (ls (c .before .before .before .before .before .before .before .before .before .before .before .before .before .before .before)) (p .0) (p .1) }
-
-same-length : tie.Need-same-length
-same-length c = search needs
 
 returns : tie.Need-returns
 returns c =
@@ -87,9 +75,6 @@ returns c =
     (c .before .before .fill .ensures)
     (c .before .before .fill .kept .1 .1 .1 .1 .1 .1 .0 ∙ length-take-le n (c .before .before .before .before .before .before .before .before .before .clear .last .0) (omega (arith, fits here, c .before .before .before .before .before .before .before .before .before .clear .kept .0)))
 
-same-length-2 : tie.Need-same-length-2
-same-length-2 c = search needs
-
 returns-2 : tie.Need-returns-2
 returns-2 c =
     let s = c .before .before .before .before .before .before .before .before .before .before .before .before .before in
@@ -99,13 +84,13 @@ pub write-spec : {M : Type 1} → statement M
 write-spec =
     tie.close
     (tie.spec
-    clear-requires
-    refusal-requires
-    table-bytes-requires
+    (λ c κs. search needs)
+    (λ c κs. search needs)
+    (λ c κs. search needs)
     slice-relend-prefix-fill
     slice-aggregate-fill
     fill-requires
-    same-length
+    (λ c. search needs)
     returns
-    same-length-2
+    (λ c. search needs)
     returns-2)

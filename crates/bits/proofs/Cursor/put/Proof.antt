@@ -6,14 +6,8 @@ use Rattle.bits.proofs.RoomLaws.{room-was, place-of, put-of, place-none
 use Rattle.bits.proofs.Cursor.put.Statement.{statement}
 use Rattle.bits.proofs.Cursor.put.Tie as tie
 
-has-room-requires : tie.Need-has-room-requires
-has-room-requires c κs = search needs
-
 write-requires : tie.Need-write-requires
 write-requires c κs = room-was _ _ _ (sym (c .before .before .has-room .ensures) ∙ c .before .if1 .taken)
-
-same-length : tie.Need-same-length
-same-length c = search needs
 
 returns : tie.Need-returns
 returns c =
@@ -28,4 +22,4 @@ returns-2 c =
     (sym (place-none _ _ _ none), sym (put-none _ _ _ _ none))
 
 pub put-spec : {M : Type 1} → statement M
-put-spec = tie.close (tie.spec has-room-requires write-requires same-length returns returns-2)
+put-spec = tie.close (tie.spec (λ c κs. search needs) write-requires (λ c. search needs) returns returns-2)

@@ -6,9 +6,6 @@ use Rattle.bits.proofs.RoomLaws.{room-was, field-of, field-none}
 use Rattle.bits.proofs.Cursor.read.Statement.{statement}
 use Rattle.bits.proofs.Cursor.read.Tie as tie
 
-has-room-requires : tie.Need-has-room-requires
-has-room-requires c κs = search needs
-
 take-requires : tie.Need-take-requires
 take-requires c κs = room-was _ _ _ (sym (c .before .has-room .ensures) ∙ c .if1 .taken)
 
@@ -21,4 +18,4 @@ returns-2 : tie.Need-returns-2
 returns-2 c = sym (field-none _ _ _ (sym (c .before .has-room .ensures) ∙ c .if1 .left))
 
 pub read-spec : {M : Type 1} → statement M
-read-spec = tie.close (tie.spec has-room-requires take-requires returns returns-2)
+read-spec = tie.close (tie.spec (λ c κs. search needs) take-requires returns returns-2)

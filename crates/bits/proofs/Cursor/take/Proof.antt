@@ -28,12 +28,6 @@ mul-v c =
     let e : c .before .loop .i ≤ 31 = omega arith in
     omega (arith, field-lt (a .s .now) (a .self .at) (c .before .loop .i), pow-mono e)
 
-add-bit-at : tie.Need-add-bit-at Inv-loop μ-loop
-add-bit-at c = search needs
-
-bit-at-requires : tie.Need-bit-at-requires Inv-loop μ-loop
-bit-at-requires c κs = search needs
-
 add-v : tie.Need-add-v Inv-loop μ-loop
 add-v c =
     let a = c .before .before .before .before .args in
@@ -41,18 +35,9 @@ add-v c =
     let e : i ≤ 31 = omega arith in
     omega (arith, field-lt (a .s .now) (a .self .at) i, pow-mono e, bit-lt (a .s .now) (a .self .at + i), c .bit-at .ensures)
 
-add-i : tie.Need-add-i Inv-loop μ-loop
-add-i c = search needs
-
-loop-less : tie.Need-loop-less Inv-loop μ-loop
-loop-less c = search needs
-
 loop-again : tie.Need-loop-again Inv-loop μ-loop
 unfolding fieldAt
 loop-again c = (omega arith, rw (add-one, c .before .before .loop .inv .1, c .bit-at .ensures))
-
-add-t11 : tie.Need-add-t11 Inv-loop μ-loop
-add-t11 c = search needs
 
 returns : tie.Need-returns Inv-loop μ-loop
 returns c =
@@ -62,4 +47,4 @@ returns c =
 pub take-spec : {M : Type 1} → statement M
 take-spec =
     tie.close
-    (tie.spec Inv-loop μ-loop loop-holds mul-v add-bit-at bit-at-requires add-v add-i loop-less loop-again add-t11 returns)
+    (tie.spec Inv-loop μ-loop loop-holds mul-v (λ c. search needs) (λ c κs. search needs) add-v (λ c. search needs) (λ c. search needs) loop-again (λ c. search needs) returns)

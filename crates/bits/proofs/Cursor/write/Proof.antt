@@ -25,35 +25,14 @@ loop-holds : tie.Need-loop-holds Inv-loop μ-loop
 unfolding putAt
 loop-holds c = search needs
 
-sub-p : tie.Need-sub-p Inv-loop μ-loop
-sub-p c = search needs
-
-sub-p-2 : tie.Need-sub-p-2 Inv-loop μ-loop
-sub-p-2 c = search needs
-
-add-put-bit : tie.Need-add-put-bit Inv-loop μ-loop
-add-put-bit c = search needs
-
-shr-put-bit : tie.Need-shr-put-bit Inv-loop μ-loop
-shr-put-bit c = search needs
-
 put-bit-requires : tie.Need-put-bit-requires Inv-loop μ-loop
 put-bit-requires c κs = omega (arith, long (c .before .before))
-
-add-i : tie.Need-add-i Inv-loop μ-loop
-add-i c = search needs
-
-loop-less : tie.Need-loop-less Inv-loop μ-loop
-loop-less c = search needs
 
 loop-again : tie.Need-loop-again Inv-loop μ-loop
 loop-again c =
     let a = c .before .before .before .before .before .before .before .args in
     let l = c .before .before .before .before .before .loop in
     (omega arith, c .before .before .put-bit .ensures ∙ rw (l .inv .1) (sym (put-step (a .s .now) (a .self .at) (a .v) (a .w) (l .i) (omega arith))))
-
-add-t16 : tie.Need-add-t16 Inv-loop μ-loop
-add-t16 c = search needs
 
 same-length : tie.Need-same-length Inv-loop μ-loop
 same-length c = long (c .before)
@@ -71,14 +50,14 @@ write-spec =
     Inv-loop
     μ-loop
     loop-holds
-    sub-p
-    sub-p-2
-    add-put-bit
-    shr-put-bit
+    (λ c. search needs)
+    (λ c. search needs)
+    (λ c. search needs)
+    (λ c. search needs)
     put-bit-requires
-    add-i
-    loop-less
+    (λ c. search needs)
+    (λ c. search needs)
     loop-again
-    add-t16
+    (λ c. search needs)
     same-length
     returns)

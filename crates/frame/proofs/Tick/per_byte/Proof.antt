@@ -7,12 +7,6 @@ use Rattle.frame.proofs.TickLaws.{per-byte-at-100, per-byte-at-10}
 use Rattle.frame.proofs.Tick.per_byte.Statement.{statement}
 use Rattle.frame.proofs.Tick.per_byte.Tie as tie
 
-enum-told : tie.Need-enum-told
-enum-told c = search needs
-
-enum-told-2 : tie.Need-enum-told-2
-enum-told-2 c = search needs
-
 returns : tie.Need-returns
 returns c = sym (ap perByte (c .enum-told .given .1) ∙ per-byte-at-100)
 
@@ -20,4 +14,4 @@ returns-2 : tie.Need-returns-2
 returns-2 c = sym (ap perByte (c .enum-told2 .given .1) ∙ per-byte-at-10)
 
 pub per-byte-spec : {M : Type 1} → statement M
-per-byte-spec = tie.close (tie.spec enum-told enum-told-2 returns returns-2)
+per-byte-spec = tie.close (tie.spec (λ c. search needs) (λ c. search needs) returns returns-2)

@@ -6,11 +6,8 @@ use Rattle.frame.proofs.TickLaws.{sends-in-time-is}
 use Rattle.frame.proofs.Tick.sends_in_time.Statement.{statement}
 use Rattle.frame.proofs.Tick.sends_in_time.Tie as tie
 
-sub-result : tie.Need-sub-result
-sub-result c = search needs
-
 returns : tie.Need-returns
 returns c = sym (sends-in-time-is (c .args .sum))
 
 pub sends-in-time-spec : {M : Type 1} → statement M
-sends-in-time-spec = tie.close (tie.spec sub-result returns)
+sends-in-time-spec = tie.close (tie.spec (λ c. search needs) returns)

@@ -11,27 +11,6 @@ use borrow.Author.Needs.{needs}
 use Rattle.reader.proofs.read.check.Statement.{statement}
 use Rattle.reader.proofs.read.check.Tie as tie
 
-slice-aggregate-unpack : tie.Need-slice-aggregate-unpack
-slice-aggregate-unpack c = search needs
-
-slice-aggregate-unpack-2 : tie.Need-slice-aggregate-unpack-2
-slice-aggregate-unpack-2 c = search needs
-
-slice-aggregate-unpack-3 : tie.Need-slice-aggregate-unpack-3
-slice-aggregate-unpack-3 c = search needs
-
-slice-aggregate-unpack-4 : tie.Need-slice-aggregate-unpack-4
-slice-aggregate-unpack-4 c = search needs
-
-slice-aggregate-unpack-5 : tie.Need-slice-aggregate-unpack-5
-slice-aggregate-unpack-5 c = search needs
-
-slice-aggregate-unpack-6 : tie.Need-slice-aggregate-unpack-6
-slice-aggregate-unpack-6 c = search needs
-
-unpack-requires : tie.Need-unpack-requires
-unpack-requires c κs = search needs
-
 returns : tie.Need-returns
 returns c = handed-on readers-roomy (c .before .before .before .before .before .before .before .before .unpack .ensures) (c .if1 .taken)
 
@@ -144,13 +123,13 @@ pub check-spec : {M : Type 1} → statement M
 check-spec =
     tie.close
     (tie.spec
-    slice-aggregate-unpack
-    slice-aggregate-unpack-2
-    slice-aggregate-unpack-3
-    slice-aggregate-unpack-4
-    slice-aggregate-unpack-5
-    slice-aggregate-unpack-6
-    unpack-requires
+    (λ c. search needs)
+    (λ c. search needs)
+    (λ c. search needs)
+    (λ c. search needs)
+    (λ c. search needs)
+    (λ c. search needs)
+    (λ c κs. search needs)
     returns
     mul-n2
     mul-n3

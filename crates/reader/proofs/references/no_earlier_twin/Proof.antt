@@ -22,17 +22,8 @@ abbrev μ-loop : tie.MeasureT-loop
 loop-holds : tie.Need-loop-holds Inv-loop μ-loop
 loop-holds c = (omega arith, (λ ls k l. absurd (omega arith)))
 
-is-twin-requires : tie.Need-is-twin-requires Inv-loop μ-loop
-is-twin-requires c κs = search needs
-
 returns : tie.Need-returns Inv-loop μ-loop
 returns c = λ ls. sym (twin-before _ _ (c .before .before .before .loop .g) (omega arith) (sym (c .before .is-twin .ensures ls) ∙ c .if1 .taken))
-
-add-g : tie.Need-add-g Inv-loop μ-loop
-add-g c = search needs
-
-loop-less : tie.Need-loop-less Inv-loop μ-loop
-loop-less c = search needs
 
 loop-again : tie.Need-loop-again Inv-loop μ-loop
 loop-again c = (omega arith, (λ ls. below-more _ _ (c .before .before .before .loop .inv .1 ls) (sym (c .before .is-twin .ensures ls) ∙ c .if1 .left)))
@@ -47,9 +38,9 @@ no-earlier-twin-spec =
     Inv-loop
     μ-loop
     loop-holds
-    is-twin-requires
+    (λ c κs. search needs)
     returns
-    add-g
-    loop-less
+    (λ c. search needs)
+    (λ c. search needs)
     loop-again
     returns-2)

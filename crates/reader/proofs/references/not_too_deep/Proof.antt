@@ -19,20 +19,8 @@ abbrev μ-loop : tie.MeasureT-loop
 loop-holds : tie.Need-loop-holds Inv-loop μ-loop
 loop-holds c = λ ls. refl
 
-parent-of-requires : tie.Need-parent-of-requires Inv-loop μ-loop
-parent-of-requires c κs = search needs
-
 returns : tie.Need-returns Inv-loop μ-loop
 returns c = λ ls. route-ends _ _ _ _ _ (omega arith) (c .before .parent-of .ensures ls) (c .before .before .before .loop .inv ls) (c .if1 .taken)
-
-sub-g : tie.Need-sub-g Inv-loop μ-loop
-sub-g c = search needs
-
-sub-n : tie.Need-sub-n Inv-loop μ-loop
-sub-n c = search needs
-
-loop-less : tie.Need-loop-less Inv-loop μ-loop
-loop-less c = search needs
 
 loop-again : tie.Need-loop-again Inv-loop μ-loop
 loop-again c = λ ls. route-goes-on _ _ _ _ _ (omega arith) (c .before .parent-of .ensures ls) (c .before .before .before .loop .inv ls) (c .if1 .left)
@@ -47,10 +35,10 @@ not-too-deep-spec =
     Inv-loop
     μ-loop
     loop-holds
-    parent-of-requires
+    (λ c κs. search needs)
     returns
-    sub-g
-    sub-n
-    loop-less
+    (λ c. search needs)
+    (λ c. search needs)
+    (λ c. search needs)
     loop-again
     returns-2)

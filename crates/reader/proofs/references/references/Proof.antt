@@ -10,12 +10,6 @@ use borrow.Author.Needs.{needs}
 use Rattle.reader.proofs.references.references.Statement.{statement}
 use Rattle.reader.proofs.references.references.Tie as tie
 
-section-answer-requires : tie.Need-section-answer-requires
-section-answer-requires c κs = search needs
-
-is-refusal-requires : tie.Need-is-refusal-requires
-is-refusal-requires c κs = search needs
-
 returns : tie.Need-returns
 returns c =
     let a = c .before .before .before .before .before .before .before .before .args in
@@ -23,12 +17,6 @@ returns c =
     let known = lists delays (a .systems .now) (a .vls .now) (a .streams .now) (a .ports .now) (a .hops .now) in
     c .before .before .section-answer .ensures delays ∙ first-section (networkOf known) 2 (omega arith) (omega arith) (λ t a b. absurd (omega arith))
     (met _ _ _ _ (c .before .before .section-answer .ensures delays) (c .before .is-refusal .ensures) (c .if1 .taken))
-
-section-answer-requires-2 : tie.Need-section-answer-requires-2
-section-answer-requires-2 c κs = search needs
-
-is-refusal-requires-2 : tie.Need-is-refusal-requires-2
-is-refusal-requires-2 c κs = search needs
 
 returns-2 : tie.Need-returns-2
 returns-2 c =
@@ -40,12 +28,6 @@ returns-2 c =
     in
     c .before .before .section-answer2 .ensures delays ∙ first-section (networkOf known) 3 (omega arith) (omega arith) (before-3 (networkOf known) e2)
     (met _ _ _ _ (c .before .before .section-answer2 .ensures delays) (c .before .is-refusal2 .ensures) (c .if2 .taken))
-
-section-answer-requires-3 : tie.Need-section-answer-requires-3
-section-answer-requires-3 c κs = search needs
-
-is-refusal-requires-3 : tie.Need-is-refusal-requires-3
-is-refusal-requires-3 c κs = search needs
 
 returns-3 : tie.Need-returns-3
 returns-3 c =
@@ -87,14 +69,14 @@ pub references-spec : {M : Type 1} → statement M
 references-spec =
     tie.close
     (tie.spec
-    section-answer-requires
-    is-refusal-requires
+    (λ c κs. search needs)
+    (λ c κs. search needs)
     returns
-    section-answer-requires-2
-    is-refusal-requires-2
+    (λ c κs. search needs)
+    (λ c κs. search needs)
     returns-2
-    section-answer-requires-3
-    is-refusal-requires-3
+    (λ c κs. search needs)
+    (λ c κs. search needs)
     returns-3
     samples-requires
     returns-4)

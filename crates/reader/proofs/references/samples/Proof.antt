@@ -24,12 +24,6 @@ abbrev μ-loop : tie.MeasureT-loop
 loop-holds : tie.Need-loop-holds Inv-loop μ-loop
 loop-holds c = (omega arith, (λ ls k l. absurd (omega arith)))
 
-one-sample-requires : tie.Need-one-sample-requires Inv-loop μ-loop
-one-sample-requires c κs = search needs
-
-refuse-requires : tie.Need-refuse-requires Inv-loop μ-loop
-refuse-requires c κs = search needs
-
 returns : tie.Need-returns Inv-loop μ-loop
 returns c =
     let a = c .before .before .before .before .before .before .before .args in
@@ -39,17 +33,8 @@ returns c =
     (omega (arith, streams-long (lists (ls .delays) (ls .systems) (a .vls .now) (a .streams .now) (ls .ports) (ls .hops)))) (l .inv .1 ls)
     (sym (c .before .before .one-sample .ensures ls) ∙ not-true _ (c .before .if1 .taken))
 
-add-s : tie.Need-add-s Inv-loop μ-loop
-add-s c = search needs
-
-loop-less : tie.Need-loop-less Inv-loop μ-loop
-loop-less c = search needs
-
 loop-again : tie.Need-loop-again Inv-loop μ-loop
 loop-again c = (omega arith, (λ ls. below-more _ _ (c .before .before .before .loop .inv .1 ls) (sym (c .before .one-sample .ensures ls) ∙ not-false _ (c .if1 .left))))
-
-accept-requires : tie.Need-accept-requires Inv-loop μ-loop
-accept-requires c κs = search needs
 
 returns-2 : tie.Need-returns-2 Inv-loop μ-loop
 returns-2 c =
@@ -65,11 +50,11 @@ samples-spec =
     Inv-loop
     μ-loop
     loop-holds
-    one-sample-requires
-    refuse-requires
+    (λ c κs. search needs)
+    (λ c κs. search needs)
     returns
-    add-s
-    loop-less
+    (λ c. search needs)
+    (λ c. search needs)
     loop-again
-    accept-requires
+    (λ c κs. search needs)
     returns-2)

@@ -20,17 +20,8 @@ Inv-loop systems vls streams ports hops section n i₀ i = (i ≤ n) × ((delays
 abbrev μ-loop : tie.MeasureT-loop
 μ-loop systems vls streams ports hops section n i₀ i = n - i
 
-rows-of-requires : tie.Need-rows-of-requires Inv-loop μ-loop
-rows-of-requires c κs = search needs
-
 loop-holds : tie.Need-loop-holds Inv-loop μ-loop
 loop-holds c = (omega arith, (λ delays k l. absurd (omega arith)))
-
-row-answer-requires : tie.Need-row-answer-requires Inv-loop μ-loop
-row-answer-requires c κs = search needs
-
-is-refusal-requires : tie.Need-is-refusal-requires Inv-loop μ-loop
-is-refusal-requires c κs = search needs
 
 returns : tie.Need-returns Inv-loop μ-loop
 returns c =
@@ -40,12 +31,6 @@ returns c =
     let known = lists delays (a .systems .now) (a .vls .now) (a .streams .now) (a .ports .now) (a .hops .now) in
     c .before .before .row-answer .ensures delays ∙ section-bad (networkOf known) (a .section) (l .i) (omega (arith, rows-tested known (a .section)))
     (l .inv .1 delays) (met _ _ _ _ (c .before .before .row-answer .ensures delays) (c .before .is-refusal .ensures) (c .if1 .taken))
-
-add-i : tie.Need-add-i Inv-loop μ-loop
-add-i c = search needs
-
-loop-less : tie.Need-loop-less Inv-loop μ-loop
-loop-less c = search needs
 
 loop-again : tie.Need-loop-again Inv-loop μ-loop
 loop-again c =
@@ -58,9 +43,6 @@ loop-again c =
           below-more _ _ (l .inv .1 delays)
           (row-was-good (networkOf known) (a .section) (l .i) (met _ _ _ _ (c .before .before .row-answer .ensures delays) (c .before .is-refusal .ensures) (c .if1 .left)))),
     )
-
-accept-requires : tie.Need-accept-requires Inv-loop μ-loop
-accept-requires c κs = search needs
 
 returns-2 : tie.Need-returns-2 Inv-loop μ-loop
 returns-2 c =
@@ -76,13 +58,13 @@ section-answer-spec =
     (tie.spec
     Inv-loop
     μ-loop
-    rows-of-requires
+    (λ c κs. search needs)
     loop-holds
-    row-answer-requires
-    is-refusal-requires
+    (λ c κs. search needs)
+    (λ c κs. search needs)
     returns
-    add-i
-    loop-less
+    (λ c. search needs)
+    (λ c. search needs)
     loop-again
-    accept-requires
+    (λ c κs. search needs)
     returns-2)

@@ -8,26 +8,8 @@ use borrow.Author.Needs.{needs}
 use Rattle.reader.proofs.references.vl_answer.Statement.{statement}
 use Rattle.reader.proofs.references.vl_answer.Tie as tie
 
-mul-if1 : tie.Need-mul-if1
-mul-if1 c = search needs
-
-mul-if1-2 : tie.Need-mul-if1-2
-mul-if1-2 c = search needs
-
-shared-slice-read-if1 : tie.Need-shared-slice-read-if1
-shared-slice-read-if1 c = search needs
-
-refuse-requires : tie.Need-refuse-requires
-refuse-requires c κs = search needs
-
 returns : tie.Need-returns
 returns c = λ ls. c .refuse .ensures ∙ vl-no-system _ _ (c .before .before .before .before .before .before .pre) (c .before .if1 .taken)
-
-has-hop-requires : tie.Need-has-hop-requires
-has-hop-requires c κs = search needs
-
-accept-requires : tie.Need-accept-requires
-accept-requires c κs = search needs
 
 returns-2 : tie.Need-returns-2
 returns-2 c =
@@ -35,9 +17,6 @@ returns-2 c =
     λ ls.
     c .accept .ensures ∙ vl-good _ _ (c .before .before .before .before .before .before .before .before .pre) (c .before .before .before .if1 .left)
     (sym (c .before .if2 .taken) ∙ c .before .before .has-hop .ensures (lists (ls .delays) (a .systems .now) (a .vls .now) (ls .streams) (ls .ports) []))
-
-refuse-requires-2 : tie.Need-refuse-requires-2
-refuse-requires-2 c κs = search needs
 
 returns-3 : tie.Need-returns-3
 returns-3 c =
@@ -50,13 +29,13 @@ pub vl-answer-spec : {M : Type 1} → statement M
 vl-answer-spec =
     tie.close
     (tie.spec
-    mul-if1
-    mul-if1-2
-    shared-slice-read-if1
-    refuse-requires
+    (λ c. search needs)
+    (λ c. search needs)
+    (λ c. search needs)
+    (λ c κs. search needs)
     returns
-    has-hop-requires
-    accept-requires
+    (λ c κs. search needs)
+    (λ c κs. search needs)
     returns-2
-    refuse-requires-2
+    (λ c κs. search needs)
     returns-3)

@@ -6,21 +6,6 @@ use borrow.Author.Needs.{needs}
 use Rattle.unpacker.proofs.examine.answer_at.Statement.{statement}
 use Rattle.unpacker.proofs.examine.answer_at.Tie as tie
 
-raw-row-requires : tie.Need-raw-row-requires
-raw-row-requires c κs = search needs
-
-fault-of-requires : tie.Need-fault-of-requires
-fault-of-requires c κs = search needs
-
-enum-known-fault : tie.Need-enum-known-fault
-enum-known-fault c = search needs
-
-enum-told : tie.Need-enum-told
-enum-told c = search needs
-
-none-given-requires : tie.Need-none-given-requires
-none-given-requires c κs = search needs
-
 returns : tie.Need-returns
 returns c =
     let a = c .before .before .before .before .before .before .args in
@@ -36,10 +21,10 @@ pub answer-at-spec : {M : Type 1} → statement M
 answer-at-spec =
     tie.close
     (tie.spec
-    raw-row-requires
-    fault-of-requires
-    enum-known-fault
-    enum-told
-    none-given-requires
+    (λ c κs. search needs)
+    (λ c κs. search needs)
+    (λ c. search needs)
+    (λ c. search needs)
+    (λ c κs. search needs)
     returns
     returns-2)

@@ -36,20 +36,11 @@ returns c =
     c .before .answer-at .ensures
     ∙ section-bad (a .table .now) (a .section) (l .i) (omega arith) (l .inv .1) (λ e. c .if1 .taken (ap (λ (x : Answer). x .number) (c .before .answer-at .ensures) ∙ e))
 
-add-i : tie.Need-add-i Inv-loop μ-loop
-add-i c = search needs
-
-loop-less : tie.Need-loop-less Inv-loop μ-loop
-loop-less c = search needs
-
 loop-again : tie.Need-loop-again Inv-loop μ-loop
 loop-again c =
     let a = c .before .before .before .before .before .args in
     let l = c .before .before .before .loop in
     (omega arith, good-more (a .table .now) (a .section) (l .i) (l .inv .1) (sym (ap (λ (x : Answer). x .number) (c .before .answer-at .ensures)) ∙ c .if1 .left))
-
-none-given-requires : tie.Need-none-given-requires Inv-loop μ-loop
-none-given-requires c κs = search needs
 
 returns-2 : tie.Need-returns-2 Inv-loop μ-loop
 returns-2 c =
@@ -65,8 +56,8 @@ answer-in-spec =
     loop-holds
     answer-at-requires
     returns
-    add-i
-    loop-less
+    (λ c. search needs)
+    (λ c. search needs)
     loop-again
-    none-given-requires
+    (λ c κs. search needs)
     returns-2)

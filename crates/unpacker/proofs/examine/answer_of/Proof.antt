@@ -11,18 +11,6 @@ use Rattle.unpacker.proofs.examine.answer_of.Tie as tie
 returns : tie.Need-returns
 returns c = too-short (c .before .before .args .table .now) (omega arith)
 
-fault-of-requires : tie.Need-fault-of-requires
-fault-of-requires c κs = search needs
-
-enum-known-fault : tie.Need-enum-known-fault
-enum-known-fault c = search needs
-
-enum-told : tie.Need-enum-told
-enum-told c = search needs
-
-answer-of-rows-requires : tie.Need-answer-of-rows-requires
-answer-of-rows-requires c κs = search needs
-
 returns-2 : tie.Need-returns-2
 returns-2 c =
     let start = c .before .before .before .before .before .before .before in
@@ -43,9 +31,9 @@ answer-of-spec =
     tie.close
     (tie.spec
     returns
-    fault-of-requires
-    enum-known-fault
-    enum-told
-    answer-of-rows-requires
+    (λ c κs. search needs)
+    (λ c. search needs)
+    (λ c. search needs)
+    (λ c κs. search needs)
     returns-2
     returns-3)

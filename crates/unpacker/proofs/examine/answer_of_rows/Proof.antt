@@ -17,9 +17,6 @@ Inv-loop table starts counts s₀ s = (1 ≤ s) × (s ≤ 6) × CleanTo table s
 abbrev μ-loop : tie.MeasureT-loop
 μ-loop table starts counts s₀ s = 6 - s
 
-array-read-if1 : tie.Need-array-read-if1 Inv-loop μ-loop
-array-read-if1 c = search needs
-
 returns : tie.Need-returns Inv-loop μ-loop
 returns c =
     let start = c .before .before .before .before in
@@ -28,18 +25,6 @@ returns c =
 
 loop-holds : tie.Need-loop-holds Inv-loop μ-loop
 loop-holds c = (omega arith, omega arith, (λ j low h. absurd (omega arith)))
-
-mul-answer-in : tie.Need-mul-answer-in Inv-loop μ-loop
-mul-answer-in c = search needs
-
-array-read-answer-in : tie.Need-array-read-answer-in Inv-loop μ-loop
-array-read-answer-in c = search needs
-
-mul-answer-in-2 : tie.Need-mul-answer-in-2 Inv-loop μ-loop
-mul-answer-in-2 c = search needs
-
-array-read-answer-in-2 : tie.Need-array-read-answer-in-2 Inv-loop μ-loop
-array-read-answer-in-2 c = search needs
 
 answer-in-requires : tie.Need-answer-in-requires Inv-loop μ-loop
 answer-in-requires c κs =
@@ -59,21 +44,12 @@ returns-2 c =
     ∙ table-bad bytes exact (l .s) (omega arith) (omega arith) (l .inv .2)
     (λ e. c .if2 .taken (ap (λ (x : Answer). x .number) (c .before .answer-in .ensures) ∙ e))
 
-add-s : tie.Need-add-s Inv-loop μ-loop
-add-s c = search needs
-
-loop-less : tie.Need-loop-less Inv-loop μ-loop
-loop-less c = search needs
-
 loop-again : tie.Need-loop-again Inv-loop μ-loop
 loop-again c =
     let bytes = c .before .before .before .before .before .before .before .before .args .table .now in
     let l = c .before .before .before .loop in
     let zero-is = sym (ap (λ (x : Answer). x .number) (c .before .answer-in .ensures)) ∙ c .if2 .left in
     (omega arith, omega arith, clean-more bytes (l .s) (l .inv .2) zero-is)
-
-none-given-requires : tie.Need-none-given-requires Inv-loop μ-loop
-none-given-requires c κs = search needs
 
 returns-3 : tie.Need-returns-3 Inv-loop μ-loop
 returns-3 c =
@@ -88,17 +64,17 @@ answer-of-rows-spec =
     (tie.spec
     Inv-loop
     μ-loop
-    array-read-if1
+    (λ c. search needs)
     returns
     loop-holds
-    mul-answer-in
-    array-read-answer-in
-    mul-answer-in-2
-    array-read-answer-in-2
+    (λ c. search needs)
+    (λ c. search needs)
+    (λ c. search needs)
+    (λ c. search needs)
     answer-in-requires
     returns-2
-    add-s
-    loop-less
+    (λ c. search needs)
+    (λ c. search needs)
     loop-again
-    none-given-requires
+    (λ c κs. search needs)
     returns-3)

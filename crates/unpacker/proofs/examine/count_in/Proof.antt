@@ -8,14 +8,8 @@ use Rattle.unpacker.proofs.examine.count_in.Tie as tie
 returns : tie.Need-returns
 returns c = count-0 (c .before .args .t1) (c .before .args .section) (c .if1 .taken)
 
-mul-result : tie.Need-mul-result
-mul-result c = search needs
-
-array-read-result : tie.Need-array-read-result
-array-read-result c = search needs
-
 returns-2 : tie.Need-returns-2
 returns-2 c = count-field (c .before .args .t1) (c .before .args .section) (c .if1 .left)
 
 pub count-in-spec : {M : Type 1} → statement M
-count-in-spec = tie.close (tie.spec returns mul-result array-read-result returns-2)
+count-in-spec = tie.close (tie.spec returns (λ c. search needs) (λ c. search needs) returns-2)

@@ -5,15 +5,9 @@ use borrow.Author.Needs.{needs}
 use Rattle.unpacker.proofs.examine.examine.Statement.{statement}
 use Rattle.unpacker.proofs.examine.examine.Tie as tie
 
-places-in-requires : tie.Need-places-in-requires
-places-in-requires c κs = search needs
-
-answer-of-requires : tie.Need-answer-of-requires
-answer-of-requires c κs = search needs
-
 returns : tie.Need-returns
 unfolding examined
 returns c = λ i. record { answer = c .answer-of .ensures i; places = c .before .places-in .ensures i }
 
 pub examine-spec : {M : Type 1} → statement M
-examine-spec = tie.close (tie.spec places-in-requires answer-of-requires returns)
+examine-spec = tie.close (tie.spec (λ c κs. search needs) (λ c κs. search needs) returns)

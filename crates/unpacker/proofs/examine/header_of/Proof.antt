@@ -19,15 +19,9 @@ slice-aggregate-row-at c =
     let a = c .before .before .before .args in
     sym (length-take-le 14 (a .table .now) (omega arith))
 
-row-at-requires : tie.Need-row-at-requires
-row-at-requires c κs = search needs
-
 returns : tie.Need-returns
 unfolding headerRow
 returns c = c .row-at .ensures ∙ ap (λ (n : ℕ). wide (rowAt (take n (c .before .before .before .before .args .table .now)) 0 0)) (sym (size-is 0))
-
-row-at-requires-2 : tie.Need-row-at-requires-2
-row-at-requires-2 c κs = search needs
 
 returns-2 : tie.Need-returns-2
 unfolding headerRow
@@ -37,4 +31,4 @@ returns-2 c =
 
 pub header-of-spec : {M : Type 1} → statement M
 header-of-spec =
-    tie.close (tie.spec slice-aggregate-row-at row-at-requires returns row-at-requires-2 returns-2)
+    tie.close (tie.spec slice-aggregate-row-at (λ c κs. search needs) returns (λ c κs. search needs) returns-2)

@@ -17,23 +17,8 @@ Inv-loop table header counts₀ starts₀ s₀ counts starts s = (s ≤ 6) × (c
 abbrev μ-loop : tie.MeasureT-loop
 μ-loop table header counts₀ starts₀ s₀ counts starts s = 6 - s
 
-header-of-requires : tie.Need-header-of-requires Inv-loop μ-loop
-header-of-requires c κs = search needs
-
 loop-holds : tie.Need-loop-holds Inv-loop μ-loop
 loop-holds c = let bytes = c .before .before .args .table .now in (omega arith, counts-start bytes, starts-start bytes)
-
-count-in-requires : tie.Need-count-in-requires Inv-loop μ-loop
-count-in-requires c κs = search needs
-
-mul-end : tie.Need-mul-end Inv-loop μ-loop
-mul-end c = search needs
-
-array-read-end : tie.Need-array-read-end Inv-loop μ-loop
-array-read-end c = search needs
-
-bytes-in-requires : tie.Need-bytes-in-requires Inv-loop μ-loop
-bytes-in-requires c κs = search needs
 
 mul-end-2 : tie.Need-mul-end-2 Inv-loop μ-loop
 mul-end-2 c =
@@ -55,24 +40,6 @@ add-end c =
       start-now (a .table .now) _ row (l .s) _ _ (omega arith) n (c .bytes-in .ensures) _ (l .inv .2),
       from-most (a .table .now) (l .s) (omega arith),
     )
-
-mul-counts : tie.Need-mul-counts Inv-loop μ-loop
-mul-counts c = search needs
-
-array-write-counts : tie.Need-array-write-counts Inv-loop μ-loop
-array-write-counts c = search needs
-
-add-s : tie.Need-add-s Inv-loop μ-loop
-add-s c = search needs
-
-mul-starts : tie.Need-mul-starts Inv-loop μ-loop
-mul-starts c = search needs
-
-array-write-starts : tie.Need-array-write-starts Inv-loop μ-loop
-array-write-starts c = search needs
-
-loop-less : tie.Need-loop-less Inv-loop μ-loop
-loop-less c = search needs
 
 loop-again : tie.Need-loop-again Inv-loop μ-loop
 loop-again c =
@@ -103,19 +70,19 @@ places-in-spec =
     (tie.spec
     Inv-loop
     μ-loop
-    header-of-requires
+    (λ c κs. search needs)
     loop-holds
-    count-in-requires
-    mul-end
-    array-read-end
-    bytes-in-requires
+    (λ c κs. search needs)
+    (λ c. search needs)
+    (λ c. search needs)
+    (λ c κs. search needs)
     mul-end-2
     add-end
-    mul-counts
-    array-write-counts
-    add-s
-    mul-starts
-    array-write-starts
-    loop-less
+    (λ c. search needs)
+    (λ c. search needs)
+    (λ c. search needs)
+    (λ c. search needs)
+    (λ c. search needs)
+    (λ c. search needs)
     loop-again
     returns)

@@ -11,9 +11,6 @@ use Rattle.unpacker.proofs.examine.raw_row.Tie as tie
 placed : (c : tie.After-bytes-in) → (c .before .before .args .i * c .bytes-in .result ≤ 57344) × (c .before .before .args .at ≤ 344064)
 placed c = let a = c .before .before .args in row-bytes (a .table .now) (a .section) (a .at) (a .i) _ (c .before .before .pre) (c .bytes-in .ensures)
 
-bytes-in-requires : tie.Need-bytes-in-requires
-bytes-in-requires c κs = search needs
-
 mul-row-at : tie.Need-mul-row-at
 mul-row-at c = omega (arith, placed c)
 
@@ -23,9 +20,6 @@ add-row-at c = omega (arith, placed c)
 mul-row-at-2 : tie.Need-mul-row-at-2
 mul-row-at-2 c = omega (arith, placed c)
 
-row-at-requires : tie.Need-row-at-requires
-row-at-requires c κs = search needs
-
 returns : tie.Need-returns
 returns c =
     let a = c .before .before .before .args in
@@ -34,4 +28,4 @@ returns c =
 pub raw-row-spec : {M : Type 1} → statement M
 raw-row-spec =
     tie.close
-    (tie.spec bytes-in-requires mul-row-at add-row-at mul-row-at-2 row-at-requires returns)
+    (tie.spec (λ c κs. search needs) mul-row-at add-row-at mul-row-at-2 (λ c κs. search needs) returns)

@@ -7,15 +7,6 @@ use borrow.Author.Needs.{needs}
 use Rattle.unpacker.proofs.filling.add_record.Statement.{statement}
 use Rattle.unpacker.proofs.filling.add_record.Tie as tie
 
-raw-row-requires : tie.Need-raw-row-requires
-raw-row-requires c κs = search needs
-
-converted-row-requires : tie.Need-converted-row-requires
-converted-row-requires c κs = search needs
-
-numbers-in-requires : tie.Need-numbers-in-requires
-numbers-in-requires c κs = search needs
-
 mul-put-numbers : tie.Need-mul-put-numbers
 mul-put-numbers c =
     let a = c .before .before .before .before .before .before .args in
@@ -26,9 +17,6 @@ put-numbers-requires c κs =
     let a = c .before .before .before .before .before .before .args in
     let most = numbers-most (a .i) (a .section) _ (omega arith) (c .before .numbers-in .ensures) in
     (rw (c .before .numbers-in .ensures) (omega (arith, c .before .before .before .before .before .before .pre .holds)), omega arith)
-
-same-length : tie.Need-same-length
-same-length c = search needs
 
 returns : tie.Need-returns
 returns c =
@@ -43,10 +31,10 @@ pub add-record-spec : {M : Type 1} → statement M
 add-record-spec =
     tie.close
     (tie.spec
-    raw-row-requires
-    converted-row-requires
-    numbers-in-requires
+    (λ c κs. search needs)
+    (λ c κs. search needs)
+    (λ c κs. search needs)
     mul-put-numbers
     put-numbers-requires
-    same-length
+    (λ c. search needs)
     returns)

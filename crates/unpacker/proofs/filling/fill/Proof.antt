@@ -17,9 +17,6 @@ Inv-loop table section at n out₀ i₀ out i =
 abbrev μ-loop : tie.MeasureT-loop
 μ-loop table section at n out₀ i₀ out i = n - i
 
-clear-requires : tie.Need-clear-requires Inv-loop μ-loop
-clear-requires c κs = search needs
-
 loop-holds : tie.Need-loop-holds Inv-loop μ-loop
 loop-holds c =
     let a = c .before .before .before .before .before .before .args in
@@ -32,12 +29,6 @@ add-record-requires c κs =
     let l = c .before .before .loop in
     adding (a .table .now) (a .section) (a .at) (l .i) (a .n) (a .out .now) _ (l .out) (start .pre) (c .before .before .before .before .before .clear .ensures) (l .inv .1) (omega arith)
     (l .inv .2)
-
-add-i : tie.Need-add-i Inv-loop μ-loop
-add-i c = search needs
-
-loop-less : tie.Need-loop-less Inv-loop μ-loop
-loop-less c = search needs
 
 loop-again : tie.Need-loop-again Inv-loop μ-loop
 loop-again c =
@@ -67,11 +58,11 @@ fill-spec =
     (tie.spec
     Inv-loop
     μ-loop
-    clear-requires
+    (λ c κs. search needs)
     loop-holds
     add-record-requires
-    add-i
-    loop-less
+    (λ c. search needs)
+    (λ c. search needs)
     loop-again
     same-length
     returns)

@@ -10,28 +10,16 @@ use borrow.Author.Needs.{needs}
 use Rattle.unpacker.proofs.filling.fill_delays.Statement.{statement}
 use Rattle.unpacker.proofs.filling.fill_delays.Tie as tie
 
-clear-requires : tie.Need-clear-requires
-clear-requires c κs = search needs
-
-same-length : tie.Need-same-length
-same-length c = search needs
-
 returns : tie.Need-returns
 returns c =
     let a = c .before .before .before .before .before .before .args in
     let n = length (a .out .now) in
     c .before .before .before .clear .ensures ∙ sym (lent-none n) ∙ ap (lent n) (sym (no-delays (a .header) (a .n) (c .if1 .taken)))
 
-converted-row-requires : tie.Need-converted-row-requires
-converted-row-requires c κs = search needs
-
 put-numbers-requires : tie.Need-put-numbers-requires
 put-numbers-requires c κs =
     let entry = c .before .before .before .before .before .before .before .before .args .out .now in
     (omega (arith, c .before .before .if1 .left, cleared-length _ (length entry) (c .before .before .before .before .before .clear .ensures)), omega arith)
-
-same-length-2 : tie.Need-same-length-2
-same-length-2 c = search needs
 
 returns-2 : tie.Need-returns-2
 returns-2 c =
@@ -45,10 +33,10 @@ pub fill-delays-spec : {M : Type 1} → statement M
 fill-delays-spec =
     tie.close
     (tie.spec
-    clear-requires
-    same-length
+    (λ c κs. search needs)
+    (λ c. search needs)
     returns
-    converted-row-requires
+    (λ c κs. search needs)
     put-numbers-requires
-    same-length-2
+    (λ c. search needs)
     returns-2)

@@ -6,65 +6,35 @@ use borrow.Author.Needs.{needs}
 use Rattle.unpacker.proofs.filling.fill_three.Statement.{statement}
 use Rattle.unpacker.proofs.filling.fill_three.Tie as tie
 
-array-read-fill : tie.Need-array-read-fill
-array-read-fill c = search needs
-
-array-read-fill-2 : tie.Need-array-read-fill-2
-array-read-fill-2 c = search needs
-
 fill-requires : tie.Need-fill-requires
 fill-requires c κs =
     let start = c .before .before .before .before .before in
     filling (start .args .table .now) 1 _ _ _ (omega arith) (start .pre .begin) (start .pre .first)
-
-array-read-fill-3 : tie.Need-array-read-fill-3
-array-read-fill-3 c = search needs
-
-array-read-fill-4 : tie.Need-array-read-fill-4
-array-read-fill-4 c = search needs
 
 fill-requires-2 : tie.Need-fill-requires-2
 fill-requires-2 c κs =
     let start = c .before .before .before .before .before .before .before .before .before in
     filling (start .args .table .now) 2 _ _ _ (omega arith) (start .pre .begin) (start .pre .second)
 
-array-read-fill-5 : tie.Need-array-read-fill-5
-array-read-fill-5 c = search needs
-
-array-read-fill-6 : tie.Need-array-read-fill-6
-array-read-fill-6 c = search needs
-
 fill-requires-3 : tie.Need-fill-requires-3
 fill-requires-3 c κs =
     let start = c .before .before .before .before .before .before .before .before .before .before .before .before .before in
     filling (start .args .table .now) 3 _ _ _ (omega arith) (start .pre .begin) (start .pre .third)
 
-same-length : tie.Need-same-length
-same-length c = search needs
-
-same-length-2 : tie.Need-same-length-2
-same-length-2 c = search needs
-
-same-length-3 : tie.Need-same-length-3
-same-length-3 c = search needs
-
-returns : tie.Need-returns
-returns c = search needs
-
 pub fill-three-spec : {M : Type 1} → statement M
 fill-three-spec =
     tie.close
     (tie.spec
-    array-read-fill
-    array-read-fill-2
+    (λ c. search needs)
+    (λ c. search needs)
     fill-requires
-    array-read-fill-3
-    array-read-fill-4
+    (λ c. search needs)
+    (λ c. search needs)
     fill-requires-2
-    array-read-fill-5
-    array-read-fill-6
+    (λ c. search needs)
+    (λ c. search needs)
     fill-requires-3
-    same-length
-    same-length-2
-    same-length-3
-    returns)
+    (λ c. search needs)
+    (λ c. search needs)
+    (λ c. search needs)
+    (λ c. search needs))

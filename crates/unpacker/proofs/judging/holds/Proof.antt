@@ -6,9 +6,6 @@ use borrow.Author.Needs.{needs}
 use Rattle.unpacker.proofs.judging.holds.Statement.{statement}
 use Rattle.unpacker.proofs.judging.holds.Tie as tie
 
-numbers-in-requires : tie.Need-numbers-in-requires
-numbers-in-requires c κs = search needs
-
 mul-result : tie.Need-mul-result
 mul-result c = omega (arith, numbers-most (c .before .args .n) (c .before .args .section) _ (omega arith) (c .numbers-in .ensures))
 
@@ -16,4 +13,4 @@ returns : tie.Need-returns
 returns c = rw (c .numbers-in .ensures)
 
 pub holds-spec : {M : Type 1} → statement M
-holds-spec = tie.close (tie.spec numbers-in-requires mul-result returns)
+holds-spec = tie.close (tie.spec (λ c κs. search needs) mul-result returns)

@@ -5,18 +5,9 @@ use borrow.Author.Needs.{needs}
 use Rattle.unpacker.proofs.judging.judge.Statement.{statement}
 use Rattle.unpacker.proofs.judging.judge.Tie as tie
 
-examine-requires : tie.Need-examine-requires
-examine-requires c κs = search needs
-
 has-room-requires : tie.Need-has-room-requires
 has-room-requires c κs =
     counts-few (c .before .before .before .before .before .before .args .table .now) _ (c .before .before .before .before .examine .ensures)
-
-answer-with-requires : tie.Need-answer-with-requires
-answer-with-requires c κs = search needs
-
-taken-rows-requires : tie.Need-taken-rows-requires
-taken-rows-requires c κs = search needs
 
 returns : tie.Need-returns
 returns c =
@@ -27,4 +18,4 @@ returns c =
 pub judge-spec : {M : Type 1} → statement M
 judge-spec =
     tie.close
-    (tie.spec examine-requires has-room-requires answer-with-requires taken-rows-requires returns)
+    (tie.spec (λ c κs. search needs) has-room-requires (λ c κs. search needs) (λ c κs. search needs) returns)

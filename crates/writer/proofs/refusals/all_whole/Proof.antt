@@ -13,29 +13,17 @@ returns : tie.Need-returns
 unfolding whole
 returns c = rw (ne-eqb (length (c .before .before .before .before .before .before .args .delays .now)) 4 (λ e. omega arith))
 
-is-whole-requires : tie.Need-is-whole-requires
-is-whole-requires c κs = search needs
-
 returns-2 : tie.Need-returns-2
 unfolding whole
 returns-2 c = rw (eq-eqb (length (c .before .before .before .before .before .before .before .before .args .delays .now)) 4 (omega arith), sym (c .before .is-whole .ensures) ∙ not-true _ (c .if2 .taken))
-
-is-whole-requires-2 : tie.Need-is-whole-requires-2
-is-whole-requires-2 c κs = search needs
 
 returns-3 : tie.Need-returns-3
 unfolding whole
 returns-3 c = rw (eq-eqb (length (c .before .before .before .before .before .before .before .before .before .before .args .delays .now)) 4 (omega arith), sym (c .before .before .before .is-whole .ensures) ∙ not-false _ (c .before .before .if2 .left), sym (c .before .is-whole2 .ensures) ∙ not-true _ (c .if3 .taken))
 
-is-whole-requires-3 : tie.Need-is-whole-requires-3
-is-whole-requires-3 c κs = search needs
-
 returns-4 : tie.Need-returns-4
 unfolding whole
 returns-4 c = rw (eq-eqb (length (c .before .before .before .before .before .before .before .before .before .before .before .before .args .delays .now)) 4 (omega arith), sym (c .before .before .before .before .before .is-whole .ensures) ∙ not-false _ (c .before .before .before .before .if2 .left), sym (c .before .before .before .is-whole2 .ensures) ∙ not-false _ (c .before .before .if3 .left), sym (c .before .is-whole3 .ensures) ∙ not-true _ (c .if4 .taken))
-
-is-whole-requires-4 : tie.Need-is-whole-requires-4
-is-whole-requires-4 c κs = search needs
 
 returns-5 : tie.Need-returns-5
 unfolding whole
@@ -46,11 +34,11 @@ all-whole-spec =
     tie.close
     (tie.spec
     returns
-    is-whole-requires
+    (λ c κs. search needs)
     returns-2
-    is-whole-requires-2
+    (λ c κs. search needs)
     returns-3
-    is-whole-requires-3
+    (λ c κs. search needs)
     returns-4
-    is-whole-requires-4
+    (λ c κs. search needs)
     returns-5)

@@ -20,17 +20,8 @@ told : (c : tie.After-all-whole) (t : Bool) → c .all-whole .result ≡ t → w
 unfolding whole
 told c t e = sym (c .all-whole .ensures) ∙ e
 
-all-whole-requires : tie.Need-all-whole-requires
-all-whole-requires c κs = search needs
-
 header-row-requires : tie.Need-header-row-requires
 header-row-requires c κs = whole-delays (ls (c .before .before .before .before .before .before .before .before)) (told (c .before) true (c .if1 .taken))
-
-fault-of-requires : tie.Need-fault-of-requires
-fault-of-requires c κs = search needs
-
-header-fault-requires : tie.Need-header-fault-requires
-header-fault-requires c κs = search needs
 
 returns : tie.Need-returns
 returns c =
@@ -46,9 +37,9 @@ pub header-answer-spec : {M : Type 1} → statement M
 header-answer-spec =
     tie.close
     (tie.spec
-    all-whole-requires
+    (λ c κs. search needs)
     header-row-requires
-    fault-of-requires
-    header-fault-requires
+    (λ c κs. search needs)
+    (λ c κs. search needs)
     returns
     returns-2)

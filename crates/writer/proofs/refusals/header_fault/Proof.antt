@@ -9,15 +9,6 @@ use borrow.Author.Needs.{needs}
 use Rattle.writer.proofs.refusals.header_fault.Statement.{statement}
 use Rattle.writer.proofs.refusals.header_fault.Tie as tie
 
-enum-known-f : tie.Need-enum-known-f
-enum-known-f c = search needs
-
-enum-told : tie.Need-enum-told
-enum-told c = search needs
-
-acceptance-requires : tie.Need-acceptance-requires
-acceptance-requires c κs = search needs
-
 returns : tie.Need-returns
 unfolding headerFault
 returns c = sym (ap (λ (x : Fault). headerFault (faultOf x)) (c .before .f .given .1) ∙ ap headerFault (fault-test _))
@@ -27,4 +18,4 @@ unfolding headerFault
 returns-2 c = c .acceptance .ensures ∙ sym (ap (λ (x : Fault). headerFault (faultOf x)) (c .before .enum-told .given .1) ∙ ap headerFault fault-nothing)
 
 pub header-fault-spec : {M : Type 1} → statement M
-header-fault-spec = tie.close (tie.spec enum-known-f enum-told acceptance-requires returns returns-2)
+header-fault-spec = tie.close (tie.spec (λ c. search needs) (λ c. search needs) (λ c κs. search needs) returns returns-2)

@@ -6,9 +6,6 @@ use borrow.Author.Needs.{needs}
 use Rattle.writer.proofs.refusals.is_whole.Statement.{statement}
 use Rattle.writer.proofs.refusals.is_whole.Tie as tie
 
-numbers-in-requires : tie.Need-numbers-in-requires
-numbers-in-requires c κs = search needs
-
 rem-result : tie.Need-rem-result
 rem-result c = omega (arith, listed-some (c .before .before .args .section) (c .before .before .pre), c .numbers-in .ensures)
 
@@ -16,4 +13,4 @@ returns : tie.Need-returns
 returns c = rw (c .numbers-in .ensures)
 
 pub is-whole-spec : {M : Type 1} → statement M
-is-whole-spec = tie.close (tie.spec numbers-in-requires rem-result returns)
+is-whole-spec = tie.close (tie.spec (λ c κs. search needs) rem-result returns)

@@ -15,9 +15,6 @@ Inv-loop list section n i₀ i = (i ≤ n) × GoodRecords list section i
 abbrev μ-loop : tie.MeasureT-loop
 μ-loop list section n i₀ i = n - i
 
-records-in-requires : tie.Need-records-in-requires Inv-loop μ-loop
-records-in-requires c κs = search needs
-
 loop-holds : tie.Need-loop-holds Inv-loop μ-loop
 loop-holds c = (omega arith, (λ j h. absurd (omega arith)))
 
@@ -32,21 +29,12 @@ returns c =
     let number = ap (λ (x : Answer). x .number) is in
     is ∙ first-bad (a .list .now) (a .section) (l .i) (omega (arith, c .before .before .before .before .records-in .ensures)) (l .inv .1) (λ e. omega arith)
 
-add-i : tie.Need-add-i Inv-loop μ-loop
-add-i c = search needs
-
-loop-less : tie.Need-loop-less Inv-loop μ-loop
-loop-less c = search needs
-
 loop-again : tie.Need-loop-again Inv-loop μ-loop
 loop-again c =
     let a = c .before .before .before .before .before .before .args in
     let l = c .before .before .before .loop in
     let number = ap (λ (x : Answer). x .number) (c .before .record-answer .ensures) in
     (omega arith, good-more (a .list .now) (a .section) (l .i) (l .inv .1) (omega arith))
-
-acceptance-requires : tie.Need-acceptance-requires Inv-loop μ-loop
-acceptance-requires c κs = search needs
 
 returns-2 : tie.Need-returns-2 Inv-loop μ-loop
 returns-2 c =
@@ -60,12 +48,12 @@ list-answer-spec =
     (tie.spec
     Inv-loop
     μ-loop
-    records-in-requires
+    (λ c κs. search needs)
     loop-holds
     record-answer-requires
     returns
-    add-i
-    loop-less
+    (λ c. search needs)
+    (λ c. search needs)
     loop-again
-    acceptance-requires
+    (λ c κs. search needs)
     returns-2)

@@ -7,21 +7,6 @@ use borrow.Author.Needs.{needs}
 use Rattle.writer.proofs.refusals.record_answer.Statement.{statement}
 use Rattle.writer.proofs.refusals.record_answer.Tie as tie
 
-list-row-requires : tie.Need-list-row-requires
-list-row-requires c κs = search needs
-
-fault-of-requires : tie.Need-fault-of-requires
-fault-of-requires c κs = search needs
-
-enum-known-test : tie.Need-enum-known-test
-enum-known-test c = search needs
-
-enum-told : tie.Need-enum-told
-enum-told c = search needs
-
-acceptance-requires : tie.Need-acceptance-requires
-acceptance-requires c κs = search needs
-
 returns : tie.Need-returns
 returns c =
     let a = c .before .before .before .before .before .before .args in
@@ -43,10 +28,10 @@ pub record-answer-spec : {M : Type 1} → statement M
 record-answer-spec =
     tie.close
     (tie.spec
-    list-row-requires
-    fault-of-requires
-    enum-known-test
-    enum-told
-    acceptance-requires
+    (λ c κs. search needs)
+    (λ c κs. search needs)
+    (λ c. search needs)
+    (λ c. search needs)
+    (λ c κs. search needs)
     returns
     returns-2)

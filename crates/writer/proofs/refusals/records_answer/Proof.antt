@@ -4,33 +4,6 @@ use borrow.Author.Needs.{needs}
 use Rattle.writer.proofs.refusals.records_answer.Statement.{statement}
 use Rattle.writer.proofs.refusals.records_answer.Tie as tie
 
-list-answer-requires : tie.Need-list-answer-requires
-list-answer-requires c κs = search needs
-
-list-answer-requires-2 : tie.Need-list-answer-requires-2
-list-answer-requires-2 c κs = search needs
-
-list-answer-requires-3 : tie.Need-list-answer-requires-3
-list-answer-requires-3 c κs = search needs
-
-list-answer-requires-4 : tie.Need-list-answer-requires-4
-list-answer-requires-4 c κs = search needs
-
-list-answer-requires-5 : tie.Need-list-answer-requires-5
-list-answer-requires-5 c κs = search needs
-
-first-of-requires : tie.Need-first-of-requires
-first-of-requires c κs = search needs
-
-first-of-requires-2 : tie.Need-first-of-requires-2
-first-of-requires-2 c κs = search needs
-
-first-of-requires-3 : tie.Need-first-of-requires-3
-first-of-requires-3 c κs = search needs
-
-first-of-requires-4 : tie.Need-first-of-requires-4
-first-of-requires-4 c κs = search needs
-
 returns : tie.Need-returns
 returns c =
     rw (
@@ -49,13 +22,13 @@ pub records-answer-spec : {M : Type 1} → statement M
 records-answer-spec =
     tie.close
     (tie.spec
-    list-answer-requires
-    list-answer-requires-2
-    list-answer-requires-3
-    list-answer-requires-4
-    list-answer-requires-5
-    first-of-requires
-    first-of-requires-2
-    first-of-requires-3
-    first-of-requires-4
+    (λ c κs. search needs)
+    (λ c κs. search needs)
+    (λ c κs. search needs)
+    (λ c κs. search needs)
+    (λ c κs. search needs)
+    (λ c κs. search needs)
+    (λ c κs. search needs)
+    (λ c κs. search needs)
+    (λ c κs. search needs)
     returns)

@@ -17,23 +17,8 @@ sized : (c : tie.After-table-bytes) → c .table-bytes .result ≡ tableSize (ls
 unfolding tableSize recordsIn listFor
 sized c = c .table-bytes .ensures
 
-header-answer-requires : tie.Need-header-answer-requires
-header-answer-requires c κs = search needs
-
 returns : tie.Need-returns
 returns c = answer-two (ls (c .before .before .before .before .before .before .before .before)) (c .before .before .before .before .before .before .before .before .args .room) _ (c .before .header-answer .ensures) (omega arith)
-
-records-answer-requires : tie.Need-records-answer-requires
-records-answer-requires c κs = search needs
-
-table-bytes-requires : tie.Need-table-bytes-requires
-table-bytes-requires c κs = search needs
-
-room-answer-requires : tie.Need-room-answer-requires
-room-answer-requires c κs = search needs
-
-first-of-requires : tie.Need-first-of-requires
-first-of-requires c κs = search needs
 
 returns-2 : tie.Need-returns-2
 returns-2 c =
@@ -50,10 +35,10 @@ pub refusal-spec : {M : Type 1} → statement M
 refusal-spec =
     tie.close
     (tie.spec
-    header-answer-requires
+    (λ c κs. search needs)
     returns
-    records-answer-requires
-    table-bytes-requires
-    room-answer-requires
-    first-of-requires
+    (λ c κs. search needs)
+    (λ c κs. search needs)
+    (λ c κs. search needs)
+    (λ c κs. search needs)
     returns-2)

@@ -7,9 +7,6 @@ use borrow.Author.Needs.{needs}
 use Rattle.writer.proofs.refusals.room_answer.Statement.{statement}
 use Rattle.writer.proofs.refusals.room_answer.Tie as tie
 
-acceptance-requires : tie.Need-acceptance-requires
-acceptance-requires c κs = search needs
-
 returns : tie.Need-returns
 unfolding roomAnswer
 returns c = rw (le-leb (c .before .before .args .bytes) (c .before .before .args .room) (omega arith)) (c .acceptance .ensures)
@@ -19,4 +16,4 @@ unfolding roomAnswer
 returns-2 c = rw (lt-leb (c .before .args .bytes) (c .before .args .room) (omega arith))
 
 pub room-answer-spec : {M : Type 1} → statement M
-room-answer-spec = tie.close (tie.spec acceptance-requires returns returns-2)
+room-answer-spec = tie.close (tie.spec (λ c κs. search needs) returns returns-2)

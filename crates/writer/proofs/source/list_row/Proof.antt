@@ -25,9 +25,6 @@ abbrev μ-loop : tie.MeasureT-loop
 inside : (c : tie.Start Inv-loop μ-loop) → c .args .i * listed (c .args .section) + listed (c .args .section) ≤ length (c .args .list .now)
 inside c = record-inside (c .args .list .now) (c .args .section) (c .args .i) (c .pre)
 
-numbers-in-requires : tie.Need-numbers-in-requires Inv-loop μ-loop
-numbers-in-requires c κs = search needs
-
 -- and it has at most eleven numbers
 few-numbers : (c : tie.After-numbers-in Inv-loop μ-loop) → c .numbers-in .result ≤ 11
 few-numbers c =
@@ -54,12 +51,6 @@ mul-row-2 c = omega (arith, few-numbers (c .before .before .before))
 
 array-write-row : tie.Need-array-write-row Inv-loop μ-loop
 array-write-row c = omega (arith, few-numbers (c .before .before .before))
-
-add-k : tie.Need-add-k Inv-loop μ-loop
-add-k c = search needs
-
-loop-less : tie.Need-loop-less Inv-loop μ-loop
-loop-less c = search needs
 
 loop-again : tie.Need-loop-again Inv-loop μ-loop
 loop-again c =
@@ -88,7 +79,7 @@ list-row-spec =
     (tie.spec
     Inv-loop
     μ-loop
-    numbers-in-requires
+    (λ c κs. search needs)
     mul-first
     loop-holds
     add-row
@@ -96,7 +87,7 @@ list-row-spec =
     shared-slice-read-row
     mul-row-2
     array-write-row
-    add-k
-    loop-less
+    (λ c. search needs)
+    (λ c. search needs)
     loop-again
     returns)

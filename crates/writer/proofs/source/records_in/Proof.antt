@@ -6,9 +6,6 @@ use borrow.Author.Needs.{needs}
 use Rattle.writer.proofs.source.records_in.Statement.{statement}
 use Rattle.writer.proofs.source.records_in.Tie as tie
 
-numbers-in-requires : tie.Need-numbers-in-requires
-numbers-in-requires c κs = search needs
-
 div-result : tie.Need-div-result
 div-result c = omega (arith, listed-some (c .before .before .args .section) (c .before .before .pre), c .numbers-in .ensures)
 
@@ -16,4 +13,4 @@ returns : tie.Need-returns
 returns c = rw (c .numbers-in .ensures)
 
 pub records-in-spec : {M : Type 1} → statement M
-records-in-spec = tie.close (tie.spec numbers-in-requires div-result returns)
+records-in-spec = tie.close (tie.spec (λ c κs. search needs) div-result returns)

@@ -14,12 +14,6 @@ use Rattle.writer.proofs.source.section_bytes.Tie as tie
 few : (c : tie.Start) → countIn (c .args .list .now) (c .args .section) * size (c .args .section) ≤ 2 * length (c .args .list .now)
 few c = bytes-few (length (c .args .list .now)) (c .args .section) (c .pre)
 
-records-in-requires : tie.Need-records-in-requires
-records-in-requires c κs = search needs
-
-bytes-in-requires : tie.Need-bytes-in-requires
-bytes-in-requires c κs = search needs
-
 mul-result : tie.Need-mul-result
 mul-result c = rw (c .before .records-in .ensures, c .bytes-in .ensures) (omega (arith, few (c .before .before .before)))
 
@@ -29,4 +23,4 @@ returns c =
     (same, rw same (few (c .before .before .before)))
 
 pub section-bytes-spec : {M : Type 1} → statement M
-section-bytes-spec = tie.close (tie.spec records-in-requires bytes-in-requires mul-result returns)
+section-bytes-spec = tie.close (tie.spec (λ c κs. search needs) (λ c κs. search needs) mul-result returns)

@@ -7,35 +7,17 @@ use borrow.Author.Needs.{needs}
 use Rattle.writer.proofs.source.table_bytes.Statement.{statement}
 use Rattle.writer.proofs.source.table_bytes.Tie as tie
 
-bytes-in-requires : tie.Need-bytes-in-requires
-bytes-in-requires c κs = search needs
-
-section-bytes-requires : tie.Need-section-bytes-requires
-section-bytes-requires c κs = search needs
-
 add-result : tie.Need-add-result
 add-result c = omega (arith, size-most 0)
-
-section-bytes-requires-2 : tie.Need-section-bytes-requires-2
-section-bytes-requires-2 c κs = search needs
 
 add-result-2 : tie.Need-add-result-2
 add-result-2 c = omega (arith, size-most 0)
 
-section-bytes-requires-3 : tie.Need-section-bytes-requires-3
-section-bytes-requires-3 c κs = search needs
-
 add-result-3 : tie.Need-add-result-3
 add-result-3 c = omega (arith, size-most 0)
 
-section-bytes-requires-4 : tie.Need-section-bytes-requires-4
-section-bytes-requires-4 c κs = search needs
-
 add-result-4 : tie.Need-add-result-4
 add-result-4 c = omega (arith, size-most 0)
-
-section-bytes-requires-5 : tie.Need-section-bytes-requires-5
-section-bytes-requires-5 c κs = search needs
 
 add-result-5 : tie.Need-add-result-5
 add-result-5 c = omega (arith, size-most 0)
@@ -56,15 +38,15 @@ pub table-bytes-spec : {M : Type 1} → statement M
 table-bytes-spec =
     tie.close
     (tie.spec
-    bytes-in-requires
-    section-bytes-requires
+    (λ c κs. search needs)
+    (λ c κs. search needs)
     add-result
-    section-bytes-requires-2
+    (λ c κs. search needs)
     add-result-2
-    section-bytes-requires-3
+    (λ c κs. search needs)
     add-result-3
-    section-bytes-requires-4
+    (λ c κs. search needs)
     add-result-4
-    section-bytes-requires-5
+    (λ c κs. search needs)
     add-result-5
     returns)
