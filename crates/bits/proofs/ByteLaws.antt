@@ -29,10 +29,6 @@ upper-bits s k (suc j) h l =
 byte-field : (s : List ℕ) (k : ℕ) → getD s k 0 < 256 → fieldAt s (8 * k) 8 ≡ getD s k 0
 byte-field s k h = upper-bits s k 8 h (omega arith) ∙ div-one (getD s k 0)
 
-pub bytes-of : (s : List ℕ) → ((k : ℕ) → getD s k 0 < 256) → Bytes s
-unfolding Bytes
-bytes-of s h = h
-
 pub bytes-zero : (n : ℕ) → Bytes (replicate n 0)
 unfolding Bytes
 bytes-zero zero k = omega arith

@@ -1,6 +1,6 @@
 -- The layouts are sane: what each field and each section must be is tested once over all sections, and antt computes the test.
 -- Assumes nothing.
-use mathlib.Core.Path.{_≡_, refl, sym, ap, _∙_}
+use mathlib.Core.Path.{_≡_, refl, sym, _∙_}
 use mathlib.Core.Bool.{Bool, true, false, _&&_, not, Bool·beq, false≢true}
 use mathlib.Core.List.{List, [], _∷_, map, sum}
 use Prim.Native.Nat.{ℕ, zero, suc, _+_, _*_, _/_, _^_, _≤_, _<_}
@@ -9,7 +9,7 @@ use native.Mathlib.Nat.{not-suc-le-zero, le-of-suc-le-suc}
 use native.Mathlib.Omega.{arith}
 use lib.Dec.{T, ltb, leb, eqb, leb→le, eqb→eq}
 use lib.ListN.{length, getD, List·getD-eq-default, List·getD-map, length-map}
-use borrow.Author.Tests.{le-ltb, ltb-false, not-false}
+use borrow.Author.Tests.{le-ltb, not-false}
 use Rattle.base.proofs.Every.{every, at, left, right}
 use Rattle.base.specs.Tabulate.{total}
 use Rattle.bits.proofs.PartLaws.{total-is}
@@ -175,11 +175,6 @@ module _ (s : ℕ) where
 
   pub unlisted : (k : ℕ) → listed s ≤ k → getD (layout s) k blank .1 ≡ Padding
   unlisted k h = is-padding _ (not-false _ (sym (listed-or-padding k) ∙ le-ltb k (listed s) h))
-
-  pub padding-last : (k : ℕ) → k < length (layout s) → getD (layout s) k blank .1 ≡ Padding → suc k ≡ length (layout s)
-  unfolding isPadding
-  padding-last k h e =
-      let past = ltb-false k (listed s) (listed-or-padding k ∙ ap (λ (kind : Kind). not (isPadding kind)) e) in omega (arith, listed-fields)
 
   -- the widths go by the fields, and fill whole bytes
   pub widths-at : (k : ℕ) → getD (widths s) k 0 ≡ getD (layout s) k blank .0

@@ -7,7 +7,6 @@ pub mod AnswerLaws
 pub mod TurnLaws
 pub mod BackLaws
 pub mod PlainLaws
-pub mod ListedLaws
 pub mod Unique
 pub mod ReadLaws
 pub mod WideLaws

@@ -1,6 +1,6 @@
 -- A row read from the table without fault, as plain facts of what it means: one record for each section. Each fact is the field's own range.
 -- Assumes nothing.
-use mathlib.Core.Path.{_≡_, refl, subst}
+use mathlib.Core.Path.{_≡_, refl}
 use mathlib.Core.Bool.{true}
 use mathlib.Core.List.{List}
 use mathlib.Core.Logic.{_⊎_, inl, inr, ⊎-elim}
@@ -14,14 +14,13 @@ use Rattle.bits.specs.Rows.{Fit}
 use Rattle.bits.proofs.PartLaws.{fit-at}
 use Rattle.layout.specs.declared.Kind.{Kind}
 use Rattle.layout.specs.declared.Kind.the-variants.{Number, Reference, Padding, Gap, LessOne, Speed}
-use Rattle.layout.specs.declared.Way.the-variants.{Reading, Writing}
-use Rattle.layout.specs.Layout.{header, endSystem, vl, stream, port, hop, layout, blank, orders, widths}
+use Rattle.layout.specs.declared.Way.the-variants.{Reading}
+use Rattle.layout.specs.Layout.{header, endSystem, vl, stream, port, layout, blank, orders, widths}
 use Rattle.layout.specs.Fields.{meaning, convert}
 use Rattle.layout.specs.Rows.{converted, rowFault}
 use Rattle.layout.proofs.LayoutLaws.{widths-at, length-widths}
 use Rattle.layout.proofs.FieldLaws.{number-was, padding-converted, less-one-was, speed-was}
 use Rattle.layout.proofs.FaultLaws.{faultless}
-use Rattle.layout.proofs.BackLaws.{written-fits, written-readable, written-read}
 
 -- ---- what the field at a place means, by its kind
 module _ (section : ℕ) (raw : List ℕ) (ok : rowFault Reading section raw ≡ none) where
@@ -190,23 +189,3 @@ port-plain raw ok =
       delay-greatest = greatest .1;
       padding = padding-in 4 raw ok 3 (omega arith) refl .1;
     }
-
--- ---- hop
-pub record PlainHop (vs : List ℕ) : Type 0 where
-  pub vl : getD vs 0 0 < 4096
-  pub port : getD vs 1 0 < 256
-  pub parent : getD vs 2 0 < 4096
-
-pub hop-plain : (raw : List ℕ) → rowFault Reading 5 raw ≡ none → Fit (widths 5) raw → PlainHop (converted Reading (layout 5) raw)
-unfolding layout hop
-hop-plain raw ok fit = record {
-  vl = reference-in 5 raw ok 0 (omega arith) fit refl;
-  port = reference-in 5 raw ok 1 (omega arith) fit refl;
-  parent = reference-in 5 raw ok 2 (omega arith) fit refl;
-}
-
--- ---- what is to be written without fault has the same facts: it is what is read from the table then
-pub plain-written : (P : List ℕ → Type 0) (section : ℕ) (vs : List ℕ) → length vs ≡ length (layout section) → rowFault Writing section vs ≡ none
-    → ((raw : List ℕ) → rowFault Reading section raw ≡ none → Fit (widths section) raw → P (converted Reading (layout section) raw)) → P vs
-plain-written P section vs long ok plain =
-    subst P (written-read section vs ok long) (plain (converted Writing (layout section) vs) (written-readable section vs ok) (written-fits section vs ok))

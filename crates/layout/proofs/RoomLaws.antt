@@ -13,7 +13,7 @@ use Rattle.base.proofs.Tests.{same-test}
 use Rattle.bits.specs.Place.{Room}
 use Rattle.base.specs.Tabulate.{total}
 use Rattle.bits.specs.Rows.{readAll, putAll, Fit}
-use Rattle.bits.proofs.RecordLaws.{total-more, total-le, fit-read, fit-length, length-put-all, read-back, put-back}
+use Rattle.bits.proofs.RecordLaws.{total-more, total-le, fit-read, length-put-all}
 use Rattle.bits.proofs.PartLaws.{put-first, fit-of}
 use Rattle.layout.specs.Layout.{layout, blank, widths}
 use Rattle.layout.specs.Rows.{rowRoom, rowAt, withRowAt, wide}
@@ -94,9 +94,6 @@ module _ (bytes : List ℕ) (a section : ℕ) where
           (fit-of (widths section) (replicate (length (widths section)) 0) (length-replicate (length (widths section)) 0)
           (λ k h. rw (zero-at (length (widths section)) k) (pow-pos (getD (widths section) k 0))))
 
-  pub length-row : length (rowAt bytes a section) ≡ length (layout section)
-  length-row = fit-length (widths section) (rowAt bytes a section) row-fits ∙ length-widths section
-
   -- zeros past a row are not written
   pub put-wide : (row : List ℕ) → length row ≡ length (layout section) → withRowAt bytes a section (wide row) ≡ withRowAt bytes a section row
   put-wide row long = go (rowRoom (length bytes) a (widths section)) refl
@@ -113,18 +110,3 @@ module _ (bytes : List ℕ) (a section : ℕ) where
           rw (put-there bytes a section (wide row) e, put-there bytes a section row e)
           (sym (put-first bytes a (widths section) (wide row) enough)
           ∙ rw (← same) (ap (putAll bytes a (widths section)) (take-wide row)))
-
-  -- what is written is read, where there is such a row; and what is read, written again, changes nothing
-  pub put-read : (raw : List ℕ) → rowRoom (length bytes) a (widths section) ≡ true → Fit (widths section) raw
-      → rowAt (withRowAt bytes a section raw) a section ≡ raw
-  put-read raw e fit =
-      let room : rowRoom (length (withRowAt bytes a section raw)) a (widths section) ≡ true = rw (length-with raw) e in
-      row-there (withRowAt bytes a section raw) a section room
-      ∙ rw (put-there bytes a section raw e) (read-back bytes a (widths section) raw (room-was (length bytes) a (widths section) e .1) fit)
-
-  pub read-put : withRowAt bytes a section (rowAt bytes a section) ≡ bytes
-  read-put = go (rowRoom (length bytes) a (widths section)) refl
-    where
-      go : (t : Bool) → rowRoom (length bytes) a (widths section) ≡ t → withRowAt bytes a section (rowAt bytes a section) ≡ bytes
-      go false e = put-none bytes a section (rowAt bytes a section) e
-      go true e = put-there bytes a section (rowAt bytes a section) e ∙ rw (row-there bytes a section e) (put-back bytes a (widths section))

@@ -55,9 +55,6 @@ module _ (ls : Lists) where
 
 -- ---- end systems
 module _ (ls : Lists) (i : ℕ) where
-  pub system-past : recordsIn ls 1 ≤ i → systemAt (networkOf ls) i ≡ noSystem
-  system-past h = List·getD-eq-default (networkOf ls .systems) noSystem {n = i} (omega (arith, systems-are ls))
-
   module _ (h : i < recordsIn ls 1) where
     pub system-per-byte : systemAt (networkOf ls) i .perByte ≡ ticksAt (numberAt ls 1 i 0)
     unfolding networkOf systemIn
@@ -65,9 +62,6 @@ module _ (ls : Lists) (i : ℕ) where
 
 -- ---- VLs
 module _ (ls : Lists) (i : ℕ) where
-  pub vl-past : recordsIn ls 2 ≤ i → vlAt (networkOf ls) i ≡ noVl
-  vl-past h = List·getD-eq-default (networkOf ls .vls) noVl {n = i} (omega (arith, vls-are ls))
-
   module _ (h : i < recordsIn ls 2) where
     vl-there : vlAt (networkOf ls) i ≡ vlIn ls i
     unfolding networkOf
@@ -91,9 +85,6 @@ module _ (ls : Lists) (i : ℕ) where
 
 -- ---- streams
 module _ (ls : Lists) (i : ℕ) where
-  pub stream-past : recordsIn ls 3 ≤ i → streamAt (networkOf ls) i ≡ noStream
-  stream-past h = List·getD-eq-default (networkOf ls .streams) noStream {n = i} (omega (arith, streams-are ls))
-
   module _ (h : i < recordsIn ls 3) where
     stream-there : streamAt (networkOf ls) i ≡ streamIn ls i
     unfolding networkOf
@@ -129,9 +120,6 @@ module _ (ls : Lists) (i : ℕ) where
 
 -- ---- ports
 module _ (ls : Lists) (i : ℕ) where
-  pub port-past : recordsIn ls 4 ≤ i → portAt (networkOf ls) i ≡ noPort
-  port-past h = List·getD-eq-default (networkOf ls .ports) noPort {n = i} (omega (arith, ports-are ls))
-
   module _ (h : i < recordsIn ls 4) where
     port-there : portAt (networkOf ls) i ≡ portIn ls i
     unfolding networkOf
