@@ -210,6 +210,9 @@ module _ (net : Network) (sound : Sound net) (r : Run) (per : Endless net r) (wi
   pub arrive : (p : ℕ) → Arrive p
   arrive p = all-below (suc p) p (le-refl (suc p))
 
+  pub held-within : (p t : ℕ) → Held-within p t
+  held-within p t = held p (arrive p) t
+
   -- ---- destinations
   pub done-delay : (h : ℕ) → h < length (net .hops) → leaf net h ≡ true
       → Delay (hand net r (hopAt net h .vl)) (done net r h) (win .soon h + hopLine net h + net .receiveLeast) (win .late h + portStation net (port-of h) + net .receiveGreatest)

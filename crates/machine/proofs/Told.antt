@@ -14,7 +14,7 @@ use Rattle.frame.proofs.FrameLaws.{protocol-overhead-is}
 use Rattle.frame.proofs.PacketLaws.{packets-grow, packets-some, packet-lines-length}
 use Rattle.station.specs.Station.{most}
 use Rattle.machine.specs.Sum.{weigh}
-use Rattle.machine.specs.Messages.{Message, Packet, number, Release, messages}
+use Rattle.machine.specs.Messages.{Told-apart, Message, Packet, number, Release, messages}
 
 -- ---- the messages of a tick
 -- a message is the message of a release of its tick
@@ -59,6 +59,12 @@ pub message-at : (t i k : ℕ) (xs : List Release) (d : Message) → k < length 
 message-at t i k [] d h = absurd (omega arith)
 message-at t i zero (x ∷ xs) d h = (refl, omega arith)
 message-at t i (suc k) (x ∷ xs) d h = let w = message-at t (suc i) k xs d (omega arith) in (w .0, omega (arith, w .1))
+
+pub told-apart : Told-apart
+told-apart t u i k xs ys d a b e =
+    let m = message-at t 0 i xs d a in
+    let n = message-at u 0 k ys d b in
+    (sym (m .0) ∙ ap (λ (z : Message). z .released) e ∙ n .0, omega (arith, m .1, n .1, ap (λ (z : Message). z .place) e))
 
 -- the messages of a tick weigh what its releases weigh
 pub weigh-messages : (f : Message → ℕ) (g : Release → ℕ) → ((t i : ℕ) (x : Release) → f (record { released = t; place = i; stream = x .stream; size = x .size }) ≡ g x)
