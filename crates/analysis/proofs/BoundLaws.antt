@@ -20,7 +20,9 @@ use Rattle.frame.specs.Packets.{packets}
 use Rattle.frame.proofs.FrameLaws.{least-line-is, largest-line-bounds, protocol-overhead-is}
 use Rattle.frame.proofs.PacketLaws.{full-packet-is, packets-fewest, packets-some}
 use Rattle.network.specs.Network.{Network, vlAt, systemAt, streamAt, portAt, hopAt}
-use Rattle.network.specs.References.{References, hopsOn, routeLonger}
+use Rattle.network.specs.ReferenceFacts.{References}
+use Rattle.network.specs.Views.{hopsOn, streamsOn}
+use Rattle.network.specs.References.{routeLonger}
 use Rattle.network.specs.Ranges.{Ranges, VlRange, SpeedRange}
 use Rattle.network.proofs.PortLaws.{on-port, no-more-than-hops}
 use Rattle.network.proofs.RouteLaws.{child-longer}
@@ -30,7 +32,7 @@ use Rattle.station.specs.Facts.{Periodic}
 use Rattle.station.proofs.FlowLaws.{InRange, and-true, periodic}
 use Rattle.station.proofs.Facts.{figure-within-length, busy-length-is}
 use Rattle.rows.specs.Links.{sendMost, sendSpread, muxWait, hopMost, hopSpread}
-use Rattle.rows.specs.Queues.{streamsOn, queueFlow, queueFlows, queueLength, queueFigure}
+use Rattle.rows.specs.Queues.{queueFlow, queueFlows, queueLength, queueFigure}
 use Rattle.rows.specs.Ports.{hopFlow, portFlows, portLength, portFigure, rootJitter, childJitter, jitterOf, figureOf}
 use Rattle.rows.proofs.PortLaws.{figures-of}
 use Rattle.analysis.specs.Computing.{sumWithout}

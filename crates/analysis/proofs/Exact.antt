@@ -16,7 +16,7 @@ use Rattle.base.proofs.LeastLaws.{least-is, least-none, least-was, none-was, le
 use Rattle.base.proofs.TabulateLaws.{passing-member}
 use Rattle.base.proofs.TestLaws.{some-is, none-is, is-some-was, is-none-was}
 use Rattle.network.specs.Network.{Network, vlAt, streamAt, hopAt}
-use Rattle.network.specs.References.{References}
+use Rattle.network.specs.ReferenceFacts.{References}
 use Rattle.station.specs.declared.Flow.{Flow}
 use Rattle.station.specs.Station.{load, limit, busyLength}
 use Rattle.station.proofs.Facts.{no-busy-length-is}
@@ -24,7 +24,8 @@ use Rattle.table.specs.declared.Answer.{Answer}
 use Rattle.table.specs.Answers.{answer, accepted, firstGiven}
 use Rattle.table.specs.Read.{networkIn}
 use Rattle.table.proofs.ReadLaws.{read-references}
-use Rattle.rows.specs.Queues.{streamsOn, queueFlows, queueLength}
+use Rattle.network.specs.Views.{streamsOn}
+use Rattle.rows.specs.Queues.{queueFlows, queueLength}
 use Rattle.rows.specs.Ports.{portFlows, portLength, portFigure, childJitter, jitterOf, figureOf}
 use Rattle.rows.specs.Refusals.{endlessSubLink, endlessVl, endless, endlessPort}
 use Rattle.rows.proofs.PortLaws.{port-flows-same, port-figure-same, figures-of}

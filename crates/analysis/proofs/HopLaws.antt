@@ -11,7 +11,7 @@ use lib.ListN.{length, getD}
 use Rattle.base.specs.Pick.{pick}
 use Rattle.frame.specs.Frame.{lineOverhead, leastFrame, leastLine, largestLine}
 use Rattle.network.specs.Network.{Network, hopAt}
-use Rattle.network.specs.References.{References}
+use Rattle.network.specs.ReferenceFacts.{References}
 use Rattle.network.specs.Ranges.{Ranges}
 use Rattle.rows.specs.Links.{sendSpread, hopMost, hopLine, hopSpread}
 use Rattle.rows.specs.Ports.{rootJitter, childJitter, jitterOf, figureOf}

@@ -9,7 +9,8 @@ use lib.ListN.{length, take, drop, replicate, length-append, length-replicate, r
 use lib.Seq.{take-at, drop-at}
 use Rattle.base.specs.Tabulate.{passing}
 use Rattle.network.specs.Network.{Network, streamAt, hopAt}
-use Rattle.rows.specs.Rows.{leaf, leavesOf, rowOf, rowsTo, rowsOf}
+use Rattle.network.specs.Views.{leaf, leavesOf}
+use Rattle.rows.specs.Rows.{rowOf, rowsTo, rowsOf}
 use Rattle.table.specs.Sections.{lent}
 use Rattle.table.proofs.LentLaws.{lent-none, length-lent}
 use Rattle.analysis.specs.Analysis.{joined}

@@ -13,7 +13,8 @@ use Rattle.frame.specs.Tick.{sendsInTime}
 use Rattle.base.proofs.TabulateLaws.{passing-same}
 use Rattle.network.specs.Network.{Network, vlAt}
 use Rattle.rows.specs.Refusals.{sendsLate}
-use Rattle.rows.specs.Links.{sendMost, vlsOf, sendSum, muxWait}
+use Rattle.rows.specs.Links.{sendMost, sendSum, muxWait}
+use Rattle.network.specs.Views.{vlsOf}
 use Rattle.analysis.specs.Computing.{sumWithout}
 use Rattle.analysis.proofs.SumLaws.{total-hit, total-miss}
 

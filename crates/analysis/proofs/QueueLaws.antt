@@ -18,7 +18,8 @@ use Rattle.network.specs.Network.{Network, vlAt, streamAt}
 use Rattle.network.specs.Ranges.{Ranges}
 use Rattle.station.specs.declared.Flow.{Flow}
 use Rattle.station.specs.Flat.{flowsIn}
-use Rattle.rows.specs.Queues.{streamsOn, queueFlow, queueFlows, queueLength, queueFigure}
+use Rattle.network.specs.Views.{streamsOn}
+use Rattle.rows.specs.Queues.{queueFlow, queueFlows, queueLength, queueFigure}
 use Rattle.rows.specs.Refusals.{endlessSubLink}
 use Rattle.analysis.specs.declared.sheet.Delays.{Delays}
 use Rattle.analysis.specs.declared.sheet.Vl.{Vl}

@@ -24,12 +24,12 @@ use Rattle.base.proofs.TestLaws.{some-is}
 use Rattle.bits.proofs.RecordLaws.{total-append}
 use Rattle.frame.specs.Packets.{packets}
 use Rattle.network.specs.Network.{Network, vlAt, streamAt, portAt, hopAt}
-use Rattle.network.specs.References.{routeOf}
+use Rattle.network.specs.Views.{routeOf, isParent, leaf, leavesOf, route}
 use Rattle.network.proofs.RouteLaws.{route-of-root, route-of-child}
 use Rattle.rows.specs.Links.{sendMost, sendLine, muxWait, hopLine}
 use Rattle.rows.specs.Queues.{queueFigure}
 use Rattle.rows.specs.Ports.{portFigure, jitterOf, figureOf}
-use Rattle.rows.specs.Rows.{isParent, leaf, leavesOf, route, queueOf, worstParts, worst, bestParts, best, rowJitter, rowOf, rowsTo, rowsOf}
+use Rattle.rows.specs.Rows.{queueOf, worstParts, worst, bestParts, best, rowJitter, rowOf, rowsTo, rowsOf}
 use Rattle.analysis.specs.Computing.{Waits, Queues, Figures, Leaves}
 use Rattle.analysis.specs.Placing.{routeMost, routeLeast}
 

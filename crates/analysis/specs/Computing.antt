@@ -11,7 +11,7 @@ use Rattle.network.specs.Network.{Network, vlAt, hopAt}
 use Rattle.rows.specs.Links.{sendMost, muxWait}
 use Rattle.rows.specs.Queues.{queueFigure}
 use Rattle.rows.specs.Ports.{portFigure, jitterOf}
-use Rattle.rows.specs.Rows.{leaf}
+use Rattle.network.specs.Views.{leaf}
 
 -- ---- the first of n rows that a test is true of, and n where there is none
 pub record First (test : ℕ → Bool) (n r : ℕ) : Type 0 where

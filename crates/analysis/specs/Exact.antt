@@ -7,7 +7,7 @@ use mathlib.Core.Option.{none, some}
 use mathlib.Core.Path.{_≡_}
 use lib.ListN.{length}
 use Rattle.network.specs.Network.{Network, vlAt, streamAt, hopAt}
-use Rattle.network.specs.References.{References}
+use Rattle.network.specs.ReferenceFacts.{References}
 use Rattle.station.specs.declared.Flow.{Flow}
 use Rattle.station.specs.Station.{load}
 use Rattle.table.specs.Answers.{answer, accepted}

@@ -5,7 +5,7 @@ use mathlib.Core.List.{List}
 use mathlib.Core.Path.{_≡_}
 use lib.ListN.{length, getD, take, drop}
 use Rattle.network.specs.Network.{Network}
-use Rattle.network.specs.References.{References}
+use Rattle.network.specs.ReferenceFacts.{References}
 use Rattle.network.specs.Ranges.{Ranges}
 use Rattle.table.specs.Write.{Lists}
 use Rattle.table.specs.Decoded.{networkOf}

@@ -14,9 +14,7 @@ use Rattle.base.specs.Tests.{isSome}
 use Rattle.frame.specs.Frame.{protocolOverhead, lineOf, lineBytes}
 use Rattle.frame.specs.Packets.{fullPacket, packets, cut, packetLines}
 use Rattle.network.specs.Network.{Network}
-use Rattle.network.specs.References.{hopsOn}
-use Rattle.rows.specs.Links.{vlsOf}
-use Rattle.rows.specs.Rows.{isParent, leaf}
+use Rattle.network.specs.Views.{hopsOn, vlsOf, isParent, leaf}
 use Rattle.machine.specs.Sum.{span}
 use Rattle.machine.specs.Pool.{landed}
 use Rattle.machine.specs.Queue.{Queue}

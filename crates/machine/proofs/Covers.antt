@@ -14,11 +14,11 @@ use Rattle.base.proofs.TestLaws.{number-is}
 use Rattle.frame.specs.Frame.{leastLine, largestLine}
 use Rattle.frame.proofs.FrameLaws.{largest-line-bounds}
 use Rattle.network.specs.Network.{Network, vlAt, streamAt, portAt, hopAt}
-use Rattle.network.specs.References.{hopsOn}
+use Rattle.network.specs.Views.{hopsOn, streamsOn}
 use Rattle.network.proofs.PortLaws.{on-port, member-on-port}
 use Rattle.rows.specs.Links.{hopMost, hopLine}
 use Rattle.rows.specs.Ports.{hopFlow, portFlows, portLength, portFigure, jitterOf}
-use Rattle.rows.specs.Queues.{streamsOn, queueFlow, queueFlows, queueLength}
+use Rattle.rows.specs.Queues.{queueFlow, queueFlows, queueLength}
 use Rattle.station.specs.declared.Flow.{Flow}
 use Rattle.station.specs.Facts.{Periodic}
 use Rattle.station.specs.Station.{most, brought, busyLength, figure}

@@ -10,7 +10,8 @@ use lib.ListN.{length}
 use Rattle.base.proofs.TestLaws.{number-is}
 use Rattle.frame.specs.Packets.{packets}
 use Rattle.network.specs.Network.{Network, vlAt, streamAt}
-use Rattle.rows.specs.Queues.{streamsOn, queueFlow, queueFlows, queueLength}
+use Rattle.network.specs.Views.{streamsOn}
+use Rattle.rows.specs.Queues.{queueFlow, queueFlows, queueLength}
 use Rattle.rows.specs.Rows.{worst, best}
 use Rattle.station.specs.Station.{brought, busyLength, figure}
 use Rattle.station.proofs.Facts.{is-attained}

@@ -6,7 +6,7 @@ use mathlib.Core.List.{List·Memᴰ, List·Permᴰ}
 use mathlib.Core.Path.{_≡_, subst}
 use lib.ListN.{length}
 use Rattle.network.specs.Network.{Network, streamAt, portAt, hopAt}
-use Rattle.rows.specs.Rows.{leaf}
+use Rattle.network.specs.Views.{leaf}
 use Rattle.station.specs.Station.{most}
 use Rattle.machine.specs.Sum.{span}
 use Rattle.machine.specs.Pool.{landed}

@@ -12,7 +12,8 @@ use Rattle.base.specs.Tabulate.{total}
 use Rattle.frame.specs.Frame.{leastLine, largestLine}
 use Rattle.frame.proofs.FrameLaws.{least-line-is}
 use Rattle.network.specs.Network.{Network, vlAt, systemAt}
-use Rattle.rows.specs.Links.{sendMost, sendLine, sendSum, vlsOf}
+use Rattle.rows.specs.Links.{sendMost, sendLine, sendSum}
+use Rattle.network.specs.Views.{vlsOf}
 use Rattle.machine.specs.Sum.{span, count, weigh}
 use Rattle.machine.specs.Turn.{fromTurn}
 use Rattle.machine.specs.Mux.{Mux}

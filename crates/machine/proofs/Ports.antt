@@ -13,11 +13,10 @@ use lib.ListN.{length}
 use Rattle.frame.specs.Frame.{leastLine, largestLine}
 use Rattle.frame.proofs.FrameLaws.{least-line-is}
 use Rattle.network.specs.Network.{Network, vlAt, portAt, hopAt}
-use Rattle.network.specs.References.{hopsOn}
+use Rattle.network.specs.Views.{hopsOn, leaf}
 use Rattle.network.proofs.PortLaws.{on-port}
 use Rattle.rows.specs.Links.{hopMost, hopLine}
 use Rattle.rows.specs.Ports.{hopFlow, portFlows, jitterOf}
-use Rattle.rows.specs.Rows.{leaf}
 use Rattle.station.specs.declared.Flow.{Flow}
 use Rattle.station.specs.Station.{most, brought}
 use Rattle.machine.specs.Sum.{span, count, weigh}

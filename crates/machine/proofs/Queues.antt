@@ -16,7 +16,8 @@ use Rattle.frame.specs.Frame.{leastLine, largestLine}
 use Rattle.frame.specs.Packets.{packets, packetLines}
 use Rattle.frame.proofs.PacketLaws.{packet-lines-between}
 use Rattle.network.specs.Network.{Network, vlAt, streamAt}
-use Rattle.rows.specs.Queues.{queueFlow, queueFlows, streamsOn}
+use Rattle.rows.specs.Queues.{queueFlow, queueFlows}
+use Rattle.network.specs.Views.{streamsOn}
 use Rattle.station.specs.declared.Flow.{Flow}
 use Rattle.station.specs.Station.{brought}
 use Rattle.machine.specs.Sum.{span, count, weigh}

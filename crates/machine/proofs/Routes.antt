@@ -15,10 +15,11 @@ use Rattle.frame.specs.Frame.{leastLine, largestLine}
 use Rattle.frame.proofs.FrameLaws.{largest-line-bounds}
 use Rattle.network.specs.Network.{Network, systemAt, vlAt, streamAt, portAt, hopAt}
 use Rattle.network.proofs.RouteLaws.{route-of-root, route-of-parent}
-use Rattle.rows.specs.Links.{sendMost, sendLine, sendSpread, vlsOf, sendSum, muxWait, hopLine, hopSpread}
+use Rattle.rows.specs.Links.{sendMost, sendLine, sendSpread, sendSum, muxWait, hopLine, hopSpread}
+use Rattle.network.specs.Views.{vlsOf, route}
 use Rattle.rows.specs.Ports.{rootJitter, childJitter, jitterOf, figureOf}
 use Rattle.rows.specs.Queues.{queueFigure}
-use Rattle.rows.specs.Rows.{route, queueOf, worstParts, worst, bestParts, best}
+use Rattle.rows.specs.Rows.{queueOf, worstParts, worst, bestParts, best}
 use Rattle.rows.proofs.PortLaws.{figures-of}
 use Rattle.machine.specs.Sum.{weigh}
 use Rattle.machine.specs.Sound.{Sound, Busy}

@@ -10,7 +10,7 @@ use native.Mathlib.Omega.{arith}
 use lib.ListN.{length}
 use Rattle.frame.specs.Packets.{packets}
 use Rattle.network.specs.Network.{Network, vlAt, streamAt, hopAt}
-use Rattle.rows.specs.Rows.{leaf}
+use Rattle.network.specs.Views.{leaf}
 use Rattle.machine.specs.Messages.{Message, Packet, Frame, vlOf, packetsIn, framed}
 use Rattle.machine.specs.Machine.{Run, released}
 use Rattle.machine.specs.Sound.{Sound}

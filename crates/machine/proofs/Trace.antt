@@ -5,7 +5,7 @@ use mathlib.Core.Bool.{cond}
 use mathlib.Core.List.{List, [], _++_}
 use mathlib.Core.Path.{_≡_, refl, sym, ap}
 use Rattle.network.specs.Network.{Network, vlAt, hopAt}
-use Rattle.rows.specs.Rows.{leaf}
+use Rattle.network.specs.Views.{leaf}
 use Rattle.machine.specs.Pool.{Due, setOut, landed, later}
 use Rattle.machine.specs.Queue.{Queue}
 use Rattle.machine.specs.Queue as Queue

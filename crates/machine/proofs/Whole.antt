@@ -16,13 +16,15 @@ use Rattle.base.proofs.Every.{at}
 use Rattle.frame.specs.Frame.{lineOverhead, protocolOverhead, leastFrame, leastLine, largestLine}
 use Rattle.frame.specs.Packets.{fullPacket, packets}
 use Rattle.network.specs.Network.{Network, systemAt, vlAt, streamAt, portAt, hopAt}
-use Rattle.network.specs.References.{namesSystem, hasHop, streamNamesVl, namesSubLink, hopNamesVl, namesPort, ofParent, parentEarlier, parentSameVl, parentLowerPort, twinOf, noEarlierTwin, routeLonger, notTooDeep, vlTests, streamTests, hopTests, refFault, badReference, hopsOn, routeOf, References}
+use Rattle.network.specs.References.{namesSystem, hasHop, streamNamesVl, namesSubLink, hopNamesVl, namesPort, ofParent, parentEarlier, parentSameVl, parentLowerPort, twinOf, noEarlierTwin, routeLonger, notTooDeep, vlTests, streamTests, hopTests, refFault, badReference}
+use Rattle.network.specs.Views.{hopsOn, routeOf, vlsOf, streamsOn, isParent, leaf, leavesOf, route}
+use Rattle.network.specs.ReferenceFacts.{References}
 use Rattle.network.specs.References as References
 use Rattle.network.proofs.ReferenceLaws.{references-exactly}
-use Rattle.rows.specs.Links.{sendMost, sendLine, sendSpread, vlsOf, sendSum, muxWait, hopMost, hopLine, hopSpread}
+use Rattle.rows.specs.Links.{sendMost, sendLine, sendSpread, sendSum, muxWait, hopMost, hopLine, hopSpread}
 use Rattle.rows.specs.Ports.{hopFlow, portFlows, portLength, portFigure, rootJitter, jitterBelow, jitterOf, figureOf}
-use Rattle.rows.specs.Queues.{streamsOn, queueFlow, queueFlows, queueLength, queueFigure}
-use Rattle.rows.specs.Rows.{isParent, leaf, leavesOf, route, queueOf, worstParts, worst, bestParts, best, rowJitter, rowOf, rowsTo, rowsOf}
+use Rattle.rows.specs.Queues.{queueFlow, queueFlows, queueLength, queueFigure}
+use Rattle.rows.specs.Rows.{queueOf, worstParts, worst, bestParts, best, rowJitter, rowOf, rowsTo, rowsOf}
 use Rattle.station.specs.declared.Flow.{Flow}
 use Rattle.station.specs.Searching.{edge, lastArrival, improved}
 use Rattle.station.specs.Station.{most, brought, limit, inRange, allInRange, busyLength, figure}

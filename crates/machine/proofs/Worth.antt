@@ -12,7 +12,8 @@ use Rattle.base.specs.Tabulate.{total}
 use Rattle.base.proofs.Every.{left}
 use Rattle.frame.specs.Packets.{packets, packetLines}
 use Rattle.network.specs.Network.{Network, vlAt, streamAt}
-use Rattle.rows.specs.Queues.{streamsOn, queueFlow, queueFlows}
+use Rattle.network.specs.Views.{streamsOn}
+use Rattle.rows.specs.Queues.{queueFlow, queueFlows}
 use Rattle.station.specs.Station.{brought}
 use Rattle.machine.specs.Sum.{weigh}
 use Rattle.machine.specs.Pool.{Due, setOut, landed}

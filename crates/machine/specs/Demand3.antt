@@ -9,7 +9,8 @@ use lib.ListN.{length}
 use Rattle.base.specs.Tests.{numberOr0}
 use Rattle.network.specs.Network.{Network, vlAt, streamAt, portAt, hopAt}
 use Rattle.rows.specs.Queues.{queueFlows, queueLength}
-use Rattle.rows.specs.Rows.{leaf, queueOf, worst, best}
+use Rattle.network.specs.Views.{leaf}
+use Rattle.rows.specs.Rows.{queueOf, worst, best}
 use Rattle.station.specs.Station.{most, figure}
 use Rattle.machine.specs.Sum.{span}
 use Rattle.machine.specs.Messages.{Release, Message, Packet, Frame, vlOf, packetsIn}

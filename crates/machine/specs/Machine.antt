@@ -6,9 +6,7 @@ use mathlib.Core.List.{List, [], _++_}
 use mathlib.Core.Option.{Option, none, some}
 use Rattle.base.specs.Tabulate.{passing}
 use Rattle.network.specs.Network.{Network, vlAt, hopAt}
-use Rattle.network.specs.References.{hopsOn}
-use Rattle.rows.specs.Links.{vlsOf}
-use Rattle.rows.specs.Rows.{leaf}
+use Rattle.network.specs.Views.{hopsOn, vlsOf, leaf}
 use Rattle.machine.specs.Lists.{chosen, gather}
 use Rattle.machine.specs.Turn.{lanesOf, fromTurn}
 use Rattle.machine.specs.Pool.{Due, setOut, landed, later}

@@ -7,7 +7,7 @@ use mathlib.Core.Path.{_≡_}
 use lib.Dec.{eqb}
 use lib.ListN.{length}
 use Rattle.network.specs.Network.{Network, streamAt, portAt, hopAt}
-use Rattle.rows.specs.Rows.{leaf}
+use Rattle.network.specs.Views.{leaf}
 use Rattle.station.specs.declared.Flow.{Flow}
 use Rattle.station.specs.Station.{most}
 use Rattle.machine.specs.Sum.{span, count}

@@ -5,7 +5,7 @@ use mathlib.Core.Option.{Option, some}
 use mathlib.Core.Path.{_≡_}
 use lib.ListN.{length}
 use Rattle.network.specs.Network.{Network, systemAt, vlAt, streamAt, portAt, hopAt}
-use Rattle.network.specs.References.{References}
+use Rattle.network.specs.ReferenceFacts.{References}
 use Rattle.rows.specs.Links.{sendSum}
 use Rattle.rows.specs.Ports.{portLength, jitterOf}
 use Rattle.rows.specs.Queues.{queueLength}

@@ -10,7 +10,8 @@ use Rattle.base.proofs.Members.{Place, member-at}
 use Rattle.base.proofs.Pigeon.{few-by}
 use Rattle.base.proofs.TabulateLaws.{passing-member, member-passing, passing-place, length-passing, passing-ascends, passing-once}
 use Rattle.network.specs.Network.{Network, hopAt}
-use Rattle.network.specs.References.{hopsOn, References, Few-hops-on-a-port}
+use Rattle.network.specs.Views.{hopsOn}
+use Rattle.network.specs.ReferenceFacts.{References, Few-hops-on-a-port}
 use Rattle.network.proofs.ReferenceLaws.{one-hop}
 
 module _ (net : Network) (p : ℕ) where

@@ -13,7 +13,8 @@ use lib.ListN.{length}
 use Rattle.base.proofs.LeastLaws.{least-none, none-was}
 use Rattle.base.proofs.TestLaws.{no-row, no-row-was, one-more-passes, one-more-passed, first-of-no-tests}
 use Rattle.network.specs.Network.{Network, hopAt}
-use Rattle.network.specs.References.{namesSystem, hasHop, streamNamesVl, namesSubLink, hopNamesVl, namesPort, parentEarlier, parentSameVl, parentLowerPort, noEarlierTwin, notTooDeep, vlTests, streamTests, hopTests, refFault, namingRows, badReference, oneSample, badSample, References, References-exactly, SamplesFit, Samples-exactly}
+use Rattle.network.specs.References.{namesSystem, hasHop, streamNamesVl, namesSubLink, hopNamesVl, namesPort, parentEarlier, parentSameVl, parentLowerPort, noEarlierTwin, notTooDeep, vlTests, streamTests, hopTests, refFault, namingRows, badReference, oneSample, badSample}
+use Rattle.network.specs.ReferenceFacts.{References, References-exactly, SamplesFit, Samples-exactly}
 use Rattle.network.proofs.ReferenceTests.{names-system, names-system-was, has-hop, has-hop-was, stream-names-vl, stream-names-vl-was, names-sub-link, names-sub-link-was, hop-names-vl, hop-names-vl-was, names-port, names-port-was, parent-is-earlier, parent-was-earlier, parent-has-vl, parent-had-vl, parent-is-lower, parent-was-lower, no-twin-before, no-twin-was-before, not-too-deep, not-too-deep-was, one-sample, one-sample-was}
 
 -- ---- rows: no test of a row fails

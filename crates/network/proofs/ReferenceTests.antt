@@ -14,7 +14,8 @@ use Rattle.base.proofs.LeastLaws.{least-none, none-was, least-was, least-exists
 use Rattle.base.proofs.TestLaws.{some-is, is-some-was, none-is, is-none-was}
 use Rattle.frame.specs.Packets.{packets}
 use Rattle.network.specs.Network.{Network, vlAt, streamAt, hopAt}
-use Rattle.network.specs.References.{namesSystem, hasHop, streamNamesVl, namesSubLink, hopNamesVl, namesPort, ofParent, parentEarlier, parentSameVl, parentLowerPort, twinOf, noEarlierTwin, routeLonger, notTooDeep, oneSample, HopOf}
+use Rattle.network.specs.References.{namesSystem, hasHop, streamNamesVl, namesSubLink, hopNamesVl, namesPort, ofParent, parentEarlier, parentSameVl, parentLowerPort, twinOf, noEarlierTwin, routeLonger, notTooDeep, oneSample}
+use Rattle.network.specs.ReferenceFacts.{HopOf}
 
 -- ---- VLs
 pub names-system : (net : Network) (v : ℕ) → vlAt net v .system < length (net .systems) → namesSystem net v ≡ true

@@ -12,7 +12,9 @@ use native.Mathlib.Omega.{arith}
 use lib.ListN.{length, getD}
 use Rattle.base.proofs.Members.{member-at}
 use Rattle.network.specs.Network.{Network, hopAt}
-use Rattle.network.specs.References.{routeLonger, routeOf, References}
+use Rattle.network.specs.References.{routeLonger}
+use Rattle.network.specs.Views.{routeOf}
+use Rattle.network.specs.ReferenceFacts.{References}
 
 -- ---- any network
 module _ (net : Network) where

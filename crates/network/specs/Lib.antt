@@ -1,3 +1,5 @@
 pub mod Network
+pub mod Views
 pub mod References
+pub mod ReferenceFacts
 pub mod Ranges

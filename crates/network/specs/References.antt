@@ -1,15 +1,12 @@
 -- 01, Answers 5 and 6: the named tests of a network's references, in 01's order, and the sampling rule.
 -- Assumes nothing.
-use Prim.Native.Nat.{ℕ, zero, suc, _≤_, _<_}
+use Prim.Native.Nat.{ℕ, zero, suc}
 use mathlib.Core.Bool.{Bool, true, false, _&&_, _||_, not}
 use mathlib.Core.List.{List, [], _∷_}
-use mathlib.Core.Logic.{_↔_}
 use mathlib.Core.Option.{Option, none, some}
-use mathlib.Core.Path.{_≡_}
 use lib.Dec.{leb, ltb, eqb}
 use lib.ListN.{length, getD}
 use Rattle.base.specs.Least.{leastFrom}
-use Rattle.base.specs.Tabulate.{passing}
 use Rattle.base.specs.Tests.{isSome, firstFailing}
 use Rattle.frame.specs.Packets.{packets}
 use Rattle.network.specs.Network.{Network, vlAt, streamAt, hopAt}
@@ -93,48 +90,3 @@ oneSample net s = not (streamAt net s .sampling) || leb (packets (streamAt net s
 
 unfoldable pub badSample : Network → Option ℕ
 badSample net = leastFrom (λ s. not (oneSample net s)) 0 (length (net .streams))
-
--- ---- one name for the hops on a port, in row order
-unfoldable pub hopsOn : Network → ℕ → List ℕ
-hopsOn net p = passing (λ h. eqb (hopAt net h .port) p) (length (net .hops))
-
--- ---- the route of a hop: the hop, its parent, the parent's parent and so on, n hops at most; with n = 8 it is whole where no reference is bad
-unfoldable pub routeOf : Network → ℕ → ℕ → List ℕ
-routeOf net zero h = []
-routeOf net (suc n) h = h ∷ elim (hopAt net h .parent) [ none ↦ [] | some g ↦ routeOf net n g ]
-
--- ---- what the tests say together, as plain facts: exactly then no reference is bad (proved in ReferenceLaws)
--- a VL has a hop
-pub record HopOf (net : Network) (v : ℕ) : Type 0 where
-  pub at : ℕ
-  pub row : at < length (net .hops)
-  pub on-vl : hopAt net at .vl ≡ v
-
-pub record References (net : Network) : Type 0 where
-  pub vl-system : (v : ℕ) → v < length (net .vls) → vlAt net v .system < length (net .systems)
-  pub vl-hop : (v : ℕ) → v < length (net .vls) → HopOf net v
-  pub stream-vl : (s : ℕ) → s < length (net .streams) → streamAt net s .vl < length (net .vls)
-  pub stream-sub-link : (s : ℕ) → s < length (net .streams) → streamAt net s .subLink < vlAt net (streamAt net s .vl) .subLinks
-  pub hop-vl : (h : ℕ) → h < length (net .hops) → hopAt net h .vl < length (net .vls)
-  pub hop-port : (h : ℕ) → h < length (net .hops) → hopAt net h .port < length (net .ports)
-  pub parent-earlier : (h g : ℕ) → h < length (net .hops) → hopAt net h .parent ≡ some g → g < h
-  pub parent-vl : (h g : ℕ) → h < length (net .hops) → hopAt net h .parent ≡ some g → hopAt net g .vl ≡ hopAt net h .vl
-  pub parent-port : (h g : ℕ) → h < length (net .hops) → hopAt net h .parent ≡ some g → hopAt net g .port < hopAt net h .port
-  pub no-twin : (h g : ℕ) → h < length (net .hops) → g < h → hopAt net g .vl ≡ hopAt net h .vl → hopAt net g .port ≡ hopAt net h .port → ⊥
-  pub not-deep : (h : ℕ) → h < length (net .hops) → routeLonger net 8 h ≡ false
-
--- answer 5 is not given exactly if they hold; the sections that name nothing have no bad reference in any case
-abbrev pub References-exactly : Type 0
-References-exactly = (net : Network) → References net ↔ ((badReference net 2 ≡ none) × (badReference net 3 ≡ none) × (badReference net 5 ≡ none))
-
--- the same of answer 6: every message of a sampling stream is one packet at most
-abbrev pub SamplesFit : Network → Type 0
-SamplesFit net =
-    (s : ℕ) → s < length (net .streams) → streamAt net s .sampling ≡ true → packets (streamAt net s .size) (vlAt net (streamAt net s .vl) .lmax) ≤ 1
-
-abbrev pub Samples-exactly : Type 0
-Samples-exactly = (net : Network) → SamplesFit net ↔ (badSample net ≡ none)
-
--- a port has at most one hop of each VL
-abbrev pub Few-hops-on-a-port : Type 0
-Few-hops-on-a-port = (net : Network) → References net → (p : ℕ) → length (hopsOn net p) ≤ length (net .vls)

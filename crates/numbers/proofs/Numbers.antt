@@ -16,9 +16,9 @@ use Rattle.frame.specs.Frame.{lineOf, lineOverhead, protocolOverhead, leastFram
 use Rattle.frame.specs.Packets.{fullPacket, packets, greatestMessage, packetsOf}
 use Rattle.frame.specs.Tick.{perByte, sendBase, sendLimit, sendsInTime}
 use Rattle.network.specs.Network.{Stream}
-use Rattle.network.specs.References.{hopsOn}
-use Rattle.rows.specs.Links.{sendMost, vlsOf, sendSum, hopMost}
-use Rattle.rows.specs.Queues.{streamsOn, queueFlow, queueFlows, queueLength, queueFigure}
+use Rattle.network.specs.Views.{hopsOn, vlsOf, streamsOn}
+use Rattle.rows.specs.Links.{sendMost, sendSum, hopMost}
+use Rattle.rows.specs.Queues.{queueFlow, queueFlows, queueLength, queueFigure}
 use Rattle.rows.specs.Ports.{hopFlow, portFlows, portLength, portFigure}
 use Rattle.rows.specs.Refusals.{sendsLate, lateSystem, endlessSubLink, endlessVl}
 use Rattle.station.specs.declared.Flow.{Flow}

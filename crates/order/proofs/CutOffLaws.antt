@@ -11,7 +11,8 @@ use Rattle.frame.specs.Packets.{packets}
 use Rattle.frame.proofs.FrameLaws.{protocol-overhead-is, largest-line-bounds}
 use Rattle.network.specs.Network.{Network, vlAt, streamAt, hopAt}
 use Rattle.rows.specs.Links.{hopLine}
-use Rattle.rows.specs.Queues.{streamsOn, queueFlow, queueFlows}
+use Rattle.network.specs.Views.{streamsOn}
+use Rattle.rows.specs.Queues.{queueFlow, queueFlows}
 use Rattle.rows.specs.Ports.{figureOf}
 use Rattle.rows.specs.Rows.{worst, best}
 use Rattle.machine.specs.Sound.{Sound, Busy}

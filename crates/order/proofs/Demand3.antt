@@ -6,7 +6,7 @@ use mathlib.Core.Path.{_≡_, sym, ap, _∙_}
 use native.Mathlib.Omega.{arith}
 use lib.ListN.{length}
 use Rattle.network.specs.Network.{Network}
-use Rattle.network.specs.References.{References}
+use Rattle.network.specs.ReferenceFacts.{References}
 use Rattle.table.specs.Sections.{lent}
 use Rattle.table.specs.Read.{networkIn}
 use Rattle.rows.specs.Rows.{queueOf, worst, best, rowsOf}

@@ -19,10 +19,11 @@ use Rattle.base.proofs.Members.{member-at}
 use Rattle.base.proofs.TabulateLaws.{passing-member, member-passing}
 use Rattle.base.proofs.TestLaws.{is-some-was}
 use Rattle.network.specs.Network.{Network, streamAt, hopAt}
-use Rattle.network.specs.References.{References}
+use Rattle.network.specs.ReferenceFacts.{References}
 use Rattle.table.specs.Sections.{lent}
 use Rattle.table.proofs.LentLaws.{lent-at}
-use Rattle.rows.specs.Rows.{isParent, leaf, leavesOf, queueOf, worst, best, rowOf, rowsTo, rowsOf}
+use Rattle.network.specs.Views.{isParent, leaf, leavesOf}
+use Rattle.rows.specs.Rows.{queueOf, worst, best, rowOf, rowsTo, rowsOf}
 use Rattle.analysis.specs.Analysis.{joined}
 use Rattle.order.specs.Demand3.{streamIn, hopIn, queueIn, worstIn, bestIn, RowFor, RowOf}
 

@@ -16,7 +16,7 @@ use Rattle.frame.specs.Tick.{sendsInTime}
 use Rattle.frame.proofs.TickLaws.{sends-in-time-was}
 use Rattle.network.specs.Network.{Network, systemAt, vlAt, streamAt, portAt, hopAt}
 use Rattle.network.specs.Ranges.{SpeedRange, Ranges}
-use Rattle.network.specs.References.{References}
+use Rattle.network.specs.ReferenceFacts.{References}
 use Rattle.table.specs.Read.{networkIn}
 use Rattle.table.proofs.ReadLaws.{read-ranges, read-references}
 use Rattle.rows.specs.Links.{sendSum}

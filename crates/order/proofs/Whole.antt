@@ -33,7 +33,8 @@ use Rattle.table.specs.Write.{listFor, recordsIn}
 use Rattle.table.specs.Decoded.{numberAt, ticksAt, parentOf, systemIn, vlIn, streamIn, portIn, hopIn, networkOf}
 use Rattle.table.specs.RoundTrip.{unpacked}
 use Rattle.table.specs.Read.{networkIn, badRefSection, answer5, answer6}
-use Rattle.rows.specs.Links.{sendMost, vlsOf, sendSum}
+use Rattle.rows.specs.Links.{sendMost, sendSum}
+use Rattle.network.specs.Views.{vlsOf}
 use Rattle.rows.specs.Queues.{queueLength}
 use Rattle.rows.specs.Ports.{portLength, jitterOf}
 use Rattle.rows.specs.Rows.{rowsOf}

@@ -8,7 +8,7 @@ use lib.ListN.{length, getD}
 use Rattle.network.specs.Network.{Network, vlAt, streamAt, hopAt}
 use Rattle.table.specs.Answers.{accepted}
 use Rattle.table.specs.Read.{networkIn}
-use Rattle.rows.specs.Rows.{leaf}
+use Rattle.network.specs.Views.{leaf}
 use Rattle.analysis.specs.declared.Analysed.{Analysed}
 use Rattle.analysis.specs.Analysis.{Analyses}
 use Rattle.machine.specs.Messages.{Message, Packet}

@@ -9,7 +9,8 @@ use native.Mathlib.Omega.{arith}
 use lib.ListN.{length}
 use Rattle.base.specs.Tests.{numberOr0}
 use Rattle.network.specs.Network.{Network, vlAt, hopAt}
-use Rattle.network.specs.References.{hopsOn, References}
+use Rattle.network.specs.Views.{hopsOn}
+use Rattle.network.specs.ReferenceFacts.{References}
 use Rattle.network.proofs.PortLaws.{on-port}
 use Rattle.station.specs.declared.Flow.{Flow}
 use Rattle.station.specs.Station.{busyLength, figure}

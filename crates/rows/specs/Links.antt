@@ -2,12 +2,13 @@
 -- Assumes nothing.
 use Prim.Native.Nat.{ℕ, _-_, _*_}
 use mathlib.Core.Bool.{_&&_, not}
-use mathlib.Core.List.{List, map}
+use mathlib.Core.List.{map}
 use lib.Dec.{eqb}
 use lib.ListN.{length}
 use Rattle.base.specs.Tabulate.{passing, total}
 use Rattle.frame.specs.Frame.{leastLine, largestLine}
 use Rattle.network.specs.Network.{Network, systemAt, vlAt, portAt, hopAt}
+use Rattle.network.specs.Views.{vlsOf}
 
 -- ---- an end system's link
 -- "(20 + Lmax) × ticks per byte" of VL v's end system
@@ -21,10 +22,6 @@ sendLine net v = leastLine * systemAt net (vlAt net v .system) .perByte
 -- "(20 + Lmax − 84) × ticks per byte of the end system"
 unfoldable pub sendSpread : Network → ℕ → ℕ
 sendSpread net v = (largestLine (vlAt net v .lmax) - leastLine) * systemAt net (vlAt net v .system) .perByte
-
--- the VLs of an end system, in row order
-unfoldable pub vlsOf : Network → ℕ → List ℕ
-vlsOf net e = passing (λ v. eqb (vlAt net v .system) e) (length (net .vls))
 
 -- 7: "the sum of (20 + Lmax) × ticks per byte over an end system's VLs"
 unfoldable pub sendSum : Network → ℕ → ℕ

@@ -7,7 +7,7 @@ use mathlib.Core.Path.{_≡_}
 use lib.ListN.{length}
 use Rattle.base.specs.Tests.{numberOr0}
 use Rattle.network.specs.Network.{Network, vlAt, hopAt}
-use Rattle.network.specs.References.{hopsOn}
+use Rattle.network.specs.Views.{hopsOn}
 use Rattle.station.specs.declared.Flow.{Flow}
 use Rattle.station.specs.Station.{busyLength, figure}
 use Rattle.rows.specs.Links.{sendSpread, muxWait, hopMost, hopLine, hopSpread}

@@ -1,21 +1,14 @@
 -- 01, Queue figure of a sub-link with a stream: "flows are its streams, J raised by (greatest − least send delay), C = p × n × BAG where n is the VL's number of sub-links; the station figure less one BAG."
 -- Assumes nothing.
 use Prim.Native.Nat.{ℕ, _+_, _-_, _*_}
-use mathlib.Core.Bool.{_&&_}
 use mathlib.Core.List.{List, map}
 use mathlib.Core.Option.{Option}
-use lib.Dec.{eqb}
-use lib.ListN.{length}
-use Rattle.base.specs.Tabulate.{passing}
 use Rattle.base.specs.Tests.{numberOr0}
 use Rattle.frame.specs.Packets.{packets}
 use Rattle.network.specs.Network.{Network, vlAt, streamAt}
+use Rattle.network.specs.Views.{streamsOn}
 use Rattle.station.specs.declared.Flow.{Flow}
 use Rattle.station.specs.Station.{busyLength, figure}
-
--- the streams of sub-link k of VL v, in row order
-unfoldable pub streamsOn : Network → ℕ → ℕ → List ℕ
-streamsOn net v k = passing (λ s. eqb (streamAt net s .vl) v && eqb (streamAt net s .subLink) k) (length (net .streams))
 
 -- "J raised by (greatest − least send delay), C = p × n × BAG"
 unfoldable pub queueFlow : Network → ℕ → Flow

@@ -1,38 +1,17 @@
 -- 01, Result rows: "For each stream in order, each hop of its VL that is nobody's parent, in order: stream, hop, queue, worst, best, jitter." Worst and best are each the sum of a list of parts.
 -- Assumes nothing.
 use Prim.Native.Nat.{ℕ, zero, suc, _+_, _-_, _*_}
-use mathlib.Core.Bool.{Bool, false, _&&_, not}
 use mathlib.Core.List.{List, [], _∷_, _++_, map}
-use mathlib.Core.Option.{Option, none, some}
-use lib.Dec.{eqb}
 use lib.ListN.{length}
-use Rattle.base.specs.Tabulate.{passing, total}
-use Rattle.base.specs.Tests.{isSome}
-use Rattle.base.specs.Least.{leastFrom}
+use Rattle.base.specs.Tabulate.{total}
 use Rattle.frame.specs.Packets.{packets}
 use Rattle.network.specs.Network.{Network, vlAt, streamAt, portAt, hopAt}
-use Rattle.network.specs.References.{routeOf}
+use Rattle.network.specs.Views.{leavesOf, route}
 use Rattle.rows.specs.Links.{sendMost, sendLine, muxWait, hopLine}
 use Rattle.rows.specs.Queues.{queueFigure}
 use Rattle.rows.specs.Ports.{figureOf}
 
--- whether hop h is the parent
-unfoldable pub isParent : ℕ → Option ℕ → Bool
-isParent h none = false
-isParent h (some g) = eqb g h
-
--- a hop that is nobody's parent
-unfoldable pub leaf : Network → ℕ → Bool
-leaf net h = not (isSome (leastFrom (λ g. isParent h (hopAt net g .parent)) 0 (length (net .hops))))
-
--- the destinations of a VL: its leaf hops, in row order
-unfoldable pub leavesOf : Network → ℕ → List ℕ
-leavesOf net v = passing (λ h. eqb (hopAt net h .vl) v && leaf net h) (length (net .hops))
-
--- the hops of a route, "routes 8 hops deep"
-unfoldable pub route : Network → ℕ → List ℕ
-route net h = routeOf net 8 h
-
+-- the queue figure of a stream's sub-link
 unfoldable pub queueOf : Network → ℕ → ℕ
 queueOf net s = queueFigure net (streamAt net s .vl) (streamAt net s .subLink)
 

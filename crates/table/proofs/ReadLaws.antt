@@ -20,7 +20,8 @@ use Rattle.layout.specs.Rows.{converted, listed}
 use Rattle.layout.proofs.LayoutLaws.{listed-is}
 use Rattle.layout.proofs.PlainLaws.{header-plain}
 use Rattle.network.specs.Network.{Network, systemAt, vlAt, streamAt, portAt}
-use Rattle.network.specs.References.{badReference, badSample, References, SamplesFit}
+use Rattle.network.specs.References.{badReference, badSample}
+use Rattle.network.specs.ReferenceFacts.{References, SamplesFit}
 use Rattle.network.specs.Ranges.{SpeedRange, VlRange, StreamRange, PortRange, Ranges}
 use Rattle.network.proofs.ReferenceLaws.{references-hold, samples-fit}
 use Rattle.table.specs.declared.Answer.{Answer}

@@ -7,7 +7,7 @@ use Prim.Native.Nat.{_+_, _-_, _≤_, _<_}
 use native.Mathlib.Omega.{arith}
 use lib.ListN.{length}
 use Rattle.network.specs.Network.{streamAt, hopAt}
-use Rattle.rows.specs.Rows.{leaf}
+use Rattle.network.specs.Views.{leaf}
 use Rattle.analysis.specs.Sheet.{networkOn}
 use Rattle.analysis.proofs.RowLaws.{rows-up-to-other, rows-up-to-inner}
 use Rattle.analysis.proofs.JoinLaws.{PutTo, put-none, put-same, put-all, put-length, put-room, put-more}

@@ -4,7 +4,7 @@ use mathlib.Core.Path.{_≡_, ap, _∙_}
 use Prim.Native.Nat.{ℕ, _+_, _-_, _*_, _≤_, _<_}
 use native.Mathlib.Omega.{arith}
 use lib.ListN.{length}
-use Rattle.rows.specs.Rows.{route}
+use Rattle.network.specs.Views.{route}
 use Rattle.analysis.specs.Sheet.{networkOn}
 use Rattle.analysis.specs.Placing.{routeLeast}
 use Rattle.analysis.proofs.RowLaws.{no-parent, a-parent, along, along-root, along-child, along-none, leastAt, route-least-is, least-read}

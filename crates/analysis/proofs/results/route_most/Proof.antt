@@ -5,7 +5,7 @@ use Prim.Native.Nat.{ℕ, _+_, _-_, _*_, _≤_, _<_}
 use native.Mathlib.Omega.{arith}
 use lib.ListN.{length, getD}
 use Rattle.rows.specs.Ports.{jitterOf}
-use Rattle.rows.specs.Rows.{route}
+use Rattle.network.specs.Views.{route}
 use Rattle.analysis.specs.Sheet.{networkOn}
 use Rattle.analysis.specs.Placing.{routeMost}
 use Rattle.analysis.proofs.BoundLaws.{port-figure-bound}

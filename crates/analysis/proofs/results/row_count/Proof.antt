@@ -4,7 +4,8 @@ use mathlib.Core.Path.{_≡_, ap, _∙_}
 use Prim.Native.Nat.{ℕ, _-_, _*_, _≤_}
 use native.Mathlib.Omega.{arith}
 use lib.ListN.{length}
-use Rattle.rows.specs.Rows.{leavesOf, rowsTo, rowsOf}
+use Rattle.network.specs.Views.{leavesOf}
+use Rattle.rows.specs.Rows.{rowsTo, rowsOf}
 use Rattle.analysis.specs.Sheet.{networkOn}
 use Rattle.analysis.proofs.RowLaws.{length-rows-more}
 use borrow.Author.Needs.{needs}
