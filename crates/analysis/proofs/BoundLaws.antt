@@ -27,7 +27,8 @@ use Rattle.network.specs.Ranges.{Ranges, VlRange, SpeedRange}
 use Rattle.network.proofs.PortLaws.{on-port, no-more-than-hops}
 use Rattle.network.proofs.RouteLaws.{child-longer}
 use Rattle.station.specs.declared.Flow.{Flow}
-use Rattle.station.specs.Station.{limit, mostFlows, busyLength, figure, allInRange, offered}
+use Rattle.station.specs.Station.{limit, busyLength, figure}
+use Rattle.station.specs.Offered.{mostFlows, allInRange, offered}
 use Rattle.station.specs.Facts.{Periodic}
 use Rattle.station.proofs.FlowLaws.{InRange, and-true, periodic}
 use Rattle.station.proofs.Facts.{figure-within-length, busy-length-is}

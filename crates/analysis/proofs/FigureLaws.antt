@@ -12,7 +12,7 @@ use lib.Seq.{getD-set-same, getD-set-other}
 use Rattle.network.specs.Network.{Network}
 use Rattle.network.specs.ReferenceFacts.{References}
 use Rattle.network.specs.Ranges.{Ranges}
-use Rattle.station.specs.Station.{offered}
+use Rattle.station.specs.Offered.{offered}
 use Rattle.station.specs.Flat.{flowsIn}
 use Rattle.rows.specs.Ports.{portFlows, portLength, portFigure, jitterOf}
 use Rattle.rows.specs.Refusals.{endless}

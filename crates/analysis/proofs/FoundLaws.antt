@@ -10,7 +10,8 @@ use Rattle.base.specs.Least.{greatestBelow}
 use Rattle.base.proofs.TestLaws.{some-is, none-is, number-is, number-of-none}
 use Rattle.station.specs.declared.Answer.{Answer}
 use Rattle.station.specs.declared.Answer.the-variants.{Served, OutOfRange, Endless}
-use Rattle.station.specs.Station.{busyLength, figure, offered, stationSays}
+use Rattle.station.specs.Station.{busyLength, figure}
+use Rattle.station.specs.Offered.{offered, stationSays}
 use Rattle.station.specs.Flat.{flowsIn, firstSays}
 use Rattle.station.specs.Answer.{said}
 use Rattle.station.proofs.AnswerLaws.{served-was, endless-was, never-out-of-range}

@@ -7,7 +7,7 @@ ghost use mathlib.Core.Path.{_≡_};
 ghost use mathlib.Core.Bool.{true};
 ghost use Prim.Native.Nat.{_<_, _≤_, _+_};
 ghost use lib.ListN.{length};
-ghost use Rattle.station.specs.Station.{offered};
+ghost use Rattle.station.specs.Offered.{offered};
 ghost use Rattle.station.specs.Flat.{flowsIn};
 ghost use Rattle.analysis.specs.Gathering.{Found};
 

@@ -10,7 +10,8 @@ use lib.ListN.{length, getD, take}
 use lib.Seq.{take-suc, length-take-le}
 use Rattle.bits.specs.Bits.{putAt}
 use Rattle.base.specs.Tabulate.{total}
-use Rattle.bits.specs.Rows.{putAll, Fit}
+use Rattle.bits.specs.Rows.{putAll}
+use Rattle.bits.specs.Tables.{Fit}
 use Rattle.bits.proofs.RecordLaws.{put-append}
 
 pub total-is : (ws : List ℕ) → total ws ≡ sum _+_ 0 ws

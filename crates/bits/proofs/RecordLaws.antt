@@ -10,7 +10,8 @@ use lib.ListN.{length, getD, take, drop}
 use lib.Seq.{take-nil}
 use Rattle.bits.specs.Bits.{Bytes, bitAt, fieldAt, putAt}
 use Rattle.base.specs.Tabulate.{total}
-use Rattle.bits.specs.Rows.{readAll, putAll, Fit}
+use Rattle.bits.specs.Rows.{readAll, putAll}
+use Rattle.bits.specs.Tables.{Fit}
 use Rattle.bits.proofs.FieldLaws.{field-lt, field-moved, field-by-bits, length-put, bytes-put, bit-outside, field-same, put-again}
 use Rattle.bits.proofs.ByteLaws.{bit-part}
 

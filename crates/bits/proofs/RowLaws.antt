@@ -8,7 +8,8 @@ use native.Mathlib.Omega.{arith}
 use lib.ListN.{length, getD}
 use Rattle.bits.specs.Bits.{Bytes, bitAt}
 use Rattle.base.specs.Tabulate.{total}
-use Rattle.bits.specs.Rows.{readAll, putAll, Fit, readRows, putRows, FitRows}
+use Rattle.bits.specs.Rows.{readAll, putAll, putRows}
+use Rattle.bits.specs.Tables.{Fit, readRows, FitRows}
 use Rattle.bits.proofs.RecordLaws.{fit-read, read-by-bits, length-put-all, bytes-put-all, outside, read-back}
 
 -- ---- the rows one by one

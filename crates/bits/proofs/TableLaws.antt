@@ -8,7 +8,8 @@ use native.Mathlib.Omega.{arith}
 use lib.ListN.{length}
 use Rattle.bits.specs.Bits.{Bytes, bitAt}
 use Rattle.base.specs.Tabulate.{total}
-use Rattle.bits.specs.Rows.{readAll, putAll, readRows, putRows, FitRows, Section, sectionBits, tableBits, readTable, putTable, FitTable}
+use Rattle.bits.specs.Rows.{readAll, putAll, putRows, Section, sectionBits, putTable}
+use Rattle.bits.specs.Tables.{readRows, FitRows, tableBits, readTable, FitTable}
 use Rattle.bits.proofs.RecordLaws.{length-read, total-append, read-append, put-append}
 use Rattle.bits.proofs.RowLaws.{rows-by-bits, length-put-rows, rows-outside, rows-back}
 use Rattle.bits.proofs.CarryLaws.{carried}

@@ -1,4 +1,5 @@
--- 01, The packed table: "Fields follow one another, most significant bit first". The bits of a list of bytes, and the fields that they make up.
+-- 01, The packed table: "Fields follow one another, most significant bit
+-- first". The bits of a list of bytes, and the fields that they make up.
 -- Assumes nothing.
 use Prim.Native.Nat.{ℕ, zero, suc, _+_, _-_, _*_, _/_, _%_, _^_, _<_}
 use mathlib.Core.List.{List}

@@ -6,7 +6,7 @@ use lib.Dec.{eqb}
 use lib.ListN.{length}
 use Rattle.base.specs.Pick.{pick}
 use Rattle.base.specs.Said.{Said, refused}
-use Rattle.station.specs.Station.{stationSays}
+use Rattle.station.specs.Offered.{stationSays}
 use Rattle.station.specs.Flat.{flowsIn}
 
 -- a list that is no whole number of flows is out of range (4)

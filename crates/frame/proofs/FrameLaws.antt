@@ -7,7 +7,8 @@ use Prim.Native.Nat.{ℕ, _+_, _-_, _≤_, _<_, max}
 use native.Mathlib.Decide.{decLe}
 use native.Mathlib.Omega.{arith}
 use Rattle.base.proofs.Tests.{within-yes, within-below, within-above, within-not}
-use Rattle.frame.specs.Frame.{lineOverhead, protocolOverhead, leastFrame, greatestFrame, lineOf, lineBytes, leastLine, largestLine, largestLineOf}
+use Rattle.frame.specs.Frame.{lineOverhead, protocolOverhead, leastFrame, greatestFrame, lineOf, lineBytes, leastLine, largestLine}
+use Rattle.frame.specs.Offered.{largestLineOf}
 
 -- ---- the numbers
 pub line-overhead-is : lineOverhead ≡ 20

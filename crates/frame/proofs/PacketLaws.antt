@@ -15,7 +15,8 @@ use Rattle.base.proofs.Members.{member-at, replicate-member, sum-replicate}
 use Rattle.base.proofs.RoundLaws.{up-enough, up-fewest, up-some, up-before, up-last, up-mono}
 use Rattle.base.proofs.Tests.{within-yes, within-not}
 use Rattle.frame.specs.Frame.{lineOverhead, protocolOverhead, leastFrame, greatestFrame, lineBytes, leastLine, largestLine}
-use Rattle.frame.specs.Packets.{fullPacket, packets, greatestMessage, packetsOf, cut, packetLines}
+use Rattle.frame.specs.Packets.{fullPacket, packets, cut, packetLines}
+use Rattle.frame.specs.Offered.{greatestMessage, packetsOf}
 use Rattle.frame.proofs.FrameLaws.{protocol-overhead-is, line-framed, line-bytes}
 
 -- ---- the numbers

@@ -35,7 +35,3 @@ leastLine = lineOverhead + leastFrame
 -- the most that a frame of a VL occupies on the line: 01's 20 + Lmax
 unfoldable pub largestLine : ℕ → ℕ
 largestLine lmax = lineOverhead + lmax
-
--- the same where Lmax is in its range; any other is refused (4): "Lmax 64 to 1,518"
-unfoldable pub largestLineOf : ℕ → Option ℕ
-largestLineOf lmax = pick (within leastFrame greatestFrame lmax) (some (largestLine lmax)) none

@@ -3,3 +3,4 @@ pub mod Frame
 pub mod Packets
 pub mod Gap
 pub mod Reply
+pub mod Offered

@@ -1,13 +1,10 @@
 -- 01, Frames: "A message of M bytes on a VL of largest frame Lmax becomes p packets, p = M / (Lmax − 47) rounded up (equation 4)."
 -- Assumes nothing.
 use Prim.Native.Nat.{ℕ, _-_, _*_}
-use mathlib.Core.Bool.{_&&_}
 use mathlib.Core.List.{List, [], _∷_, _++_, map}
-use mathlib.Core.Option.{Option, none, some}
 use lib.ListN.{replicate}
-use Rattle.base.specs.Pick.{pick, within}
 use Rattle.base.specs.Round.{up}
-use Rattle.frame.specs.Frame.{protocolOverhead, leastFrame, greatestFrame, lineBytes}
+use Rattle.frame.specs.Frame.{protocolOverhead, lineBytes}
 
 -- the payload of a full packet: Lmax − 47
 unfoldable pub fullPacket : ℕ → ℕ
@@ -16,14 +13,6 @@ fullPacket lmax = lmax - protocolOverhead
 -- equation 4
 unfoldable pub packets : ℕ → ℕ → ℕ
 packets m lmax = up m (fullPacket lmax)
-
--- the greatest message: "M 1 to 8,192"
-unfoldable pub greatestMessage : ℕ
-greatestMessage = 8192
-
--- the same where M and Lmax are in 01's ranges; any other is refused (4)
-unfoldable pub packetsOf : ℕ → ℕ → Option ℕ
-packetsOf m lmax = pick (within leastFrame greatestFrame lmax && within 1 greatestMessage m) (some (packets m lmax)) none
 
 -- 01, The tick machine: "A message is cut by equations 4 and 7: every packet but the last is full." The payloads, in order
 unfoldable pub cut : ℕ → ℕ → List ℕ

@@ -1,4 +1,5 @@
--- What a rule answers, as 01's number and values. (01, last paragraph: "Where an answer is an enum, a definition sets out this paper's number and values for each of its cases.")
+-- What a rule answers, as 01's number and values. (01, last paragraph: "Where an answer is an enum, a definition sets out this paper's
+-- number and values for each of its cases.")
 -- Assumes nothing.
 use mathlib.Core.List.{[], _∷_}
 use Rattle.base.specs.Said.{Said, accepted, refused}

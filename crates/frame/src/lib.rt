@@ -4,8 +4,8 @@ ghost use mathlib.Core.Path.{_≡_};
 ghost use Rattle.base.specs.Said.{ruled};
 ghost use Rattle.frame.specs.Reply.{said};
 ghost use Rattle.frame.specs.Tick.{perByte, sendsInTime};
-ghost use Rattle.frame.specs.Frame.{lineOf, largestLineOf};
-ghost use Rattle.frame.specs.Packets.{packetsOf};
+ghost use Rattle.frame.specs.Frame.{lineOf};
+ghost use Rattle.frame.specs.Offered.{largestLineOf, packetsOf};
 ghost use Rattle.frame.specs.Gap.{gapOf, codeOf, msOf};
 
 pub enum Speed {

@@ -11,7 +11,7 @@ use lib.Dec.{T, ltb, ltb→lt}
 use lib.ListN.{length, getD}
 use lib.Seq.{ext-getD}
 use Rattle.base.proofs.Every.{every, at, left, right}
-use Rattle.bits.specs.Rows.{Fit}
+use Rattle.bits.specs.Tables.{Fit}
 use Rattle.bits.proofs.RecordLaws.{fit-length}
 use Rattle.bits.proofs.PartLaws.{fit-at, fit-of}
 use Rattle.layout.specs.declared.Kind.{Kind}

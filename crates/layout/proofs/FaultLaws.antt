@@ -18,7 +18,8 @@ use Rattle.layout.specs.declared.Way.{Way}
 use Rattle.layout.specs.Layout.{layout, blank, Order, orders}
 use Rattle.layout.specs.Fields.{convert}
 use Rattle.base.specs.Tests.{numberOr0, isSome, firstFailing}
-use Rattle.layout.specs.Rows.{wide, converted, fieldTests, orderTests, orderFault, rowFault}
+use Rattle.layout.specs.Contracts.{wide, orderFault}
+use Rattle.layout.specs.Rows.{converted, fieldTests, orderTests, rowFault}
 use Rattle.layout.proofs.RowLaws.{converted-at, wide-at}
 
 -- ---- the first test that fails

@@ -10,7 +10,7 @@ use native.Mathlib.Omega.{arith}
 use lib.ListN.{length, getD}
 use Rattle.frame.specs.Gap.{codeOf, goodMs}
 use Rattle.frame.proofs.GapLaws.{code-back, code-was, good-was}
-use Rattle.bits.specs.Rows.{Fit}
+use Rattle.bits.specs.Tables.{Fit}
 use Rattle.bits.proofs.PartLaws.{fit-at}
 use Rattle.layout.specs.declared.Kind.{Kind}
 use Rattle.layout.specs.declared.Kind.the-variants.{Number, Reference, Padding, Gap, LessOne, Speed}

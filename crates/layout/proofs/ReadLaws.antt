@@ -11,14 +11,15 @@ use lib.ListN.{length, getD, take, drop, replicate, length-drop, length-replicat
 use lib.Pow.{pow-pos}
 use lib.Seq.{take-append-le, drop-append-le}
 use Rattle.base.proofs.Every.{at}
-use Rattle.bits.specs.Rows.{Fit}
+use Rattle.bits.specs.Tables.{Fit}
 use Rattle.bits.proofs.PartLaws.{fit-at, fit-of}
 use Rattle.bits.proofs.RecordLaws.{fit-read}
 use Rattle.layout.specs.declared.Fault.{Fault}
 use Rattle.layout.specs.declared.Fault.the-variants.{Test, Nothing}
 use Rattle.layout.specs.Layout.{layout, header, widths}
 use Rattle.base.specs.Tests.{isSome, numberOr0}
-use Rattle.layout.specs.Rows.{rowRoom, rowAt, wide, faultOf}
+use Rattle.layout.specs.Rows.{rowRoom, rowAt}
+use Rattle.layout.specs.Contracts.{wide, faultOf}
 use Rattle.layout.proofs.LayoutLaws.{length-widths, fields-are}
 use Rattle.layout.proofs.RoomLaws.{row-there, row-none}
 

@@ -12,11 +12,13 @@ use borrow.Author.Tests.{leb-true, le-leb, lt-leb}
 use Rattle.base.proofs.Tests.{same-test}
 use Rattle.bits.specs.Place.{Room}
 use Rattle.base.specs.Tabulate.{total}
-use Rattle.bits.specs.Rows.{readAll, putAll, Fit}
+use Rattle.bits.specs.Rows.{readAll, putAll}
+use Rattle.bits.specs.Tables.{Fit}
 use Rattle.bits.proofs.RecordLaws.{total-more, total-le, fit-read, length-put-all}
 use Rattle.bits.proofs.PartLaws.{put-first, fit-of}
 use Rattle.layout.specs.Layout.{layout, blank, widths}
-use Rattle.layout.specs.Rows.{rowRoom, rowAt, withRowAt, wide}
+use Rattle.layout.specs.Rows.{rowRoom, rowAt}
+use Rattle.layout.specs.Contracts.{withRowAt, wide}
 use Rattle.layout.proofs.LayoutLaws.{narrow, few-fields, widths-at, length-widths}
 use Rattle.layout.proofs.RowLaws.{zero-at, length-wide, take-wide}
 

@@ -13,7 +13,8 @@ use Rattle.layout.specs.declared.Way.{Way}
 use Rattle.layout.specs.Layout.{blank}
 use Rattle.layout.specs.Fields.{convert}
 use Rattle.base.specs.Tests.{numberOr0}
-use Rattle.layout.specs.Rows.{wide, converted}
+use Rattle.layout.specs.Contracts.{wide}
+use Rattle.layout.specs.Rows.{converted}
 
 -- ---- the numbers converted, one by one
 pub length-converted : (way : Way) (ss : List Shape) (row : List ℕ) → length (converted way ss row) ≡ length ss

@@ -6,7 +6,7 @@ use mathlib.Core.Option.{Option, none, some}
 use Prim.Native.Nat.{ℕ}
 use Rattle.layout.specs.declared.Fault.the-variants.{Test, Nothing}
 use Rattle.base.specs.Tests.{numberOr0, isSome}
-use Rattle.layout.specs.Rows.{faultOf}
+use Rattle.layout.specs.Contracts.{faultOf}
 
 pub fault-test : (i : ℕ) → faultOf (Test i) ≡ some i
 unfolding faultOf

@@ -28,7 +28,8 @@ use Rattle.layout.specs.declared.Way.{Way}
 use Rattle.layout.specs.Layout.{layout, blank, widths}
 use Rattle.layout.specs.Fields.{convert}
 use Rattle.base.specs.Tests.{isSome}
-use Rattle.layout.specs.Rows.{wide, converted, rowRoom, rowAt, withRowAt}
+use Rattle.layout.specs.Contracts.{wide, withRowAt}
+use Rattle.layout.specs.Rows.{converted, rowRoom, rowAt}
 use Rattle.layout.proofs.AnswerLaws.{refusal-of, value-of}
 use Rattle.layout.proofs.FaultLaws.{GoodTo}
 use Rattle.layout.proofs.LayoutLaws.{widths-at, length-widths}

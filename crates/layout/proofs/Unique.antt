@@ -5,7 +5,7 @@ use mathlib.Core.Option.{Option·some-injective, Option·some-ne-none, Option·n
 use Rattle.base.specs.Settles.{Settles}
 use Rattle.layout.specs.declared.Fault.{Fault}
 use Rattle.layout.specs.declared.Fault.the-variants.{Test, Nothing}
-use Rattle.layout.specs.Rows.{faultOf}
+use Rattle.layout.specs.Contracts.{faultOf}
 use Rattle.layout.proofs.fields_in.Kinds as fields-kinds
 use Rattle.layout.proofs.fields_in.Reads as fields-reads
 use Rattle.layout.proofs.numbers_in.Kinds as numbers-kinds

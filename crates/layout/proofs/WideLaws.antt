@@ -10,7 +10,7 @@ use Rattle.base.specs.Tabulate.{total}
 use Rattle.bits.specs.Rows.{putAll}
 use Rattle.bits.proofs.PartLaws.{put-first}
 use Rattle.layout.specs.Layout.{layout, widths}
-use Rattle.layout.specs.Rows.{wide, withRowAt}
+use Rattle.layout.specs.Contracts.{wide, withRowAt}
 use Rattle.layout.proofs.LayoutLaws.{length-widths, few-fields}
 use Rattle.layout.proofs.RoomLaws.{room-yes, put-there}
 use Rattle.layout.proofs.RowLaws.{length-wide}

@@ -1,4 +1,5 @@
--- What a stored field means, and how a meaning is stored. The lists that the unpacker fills and the writer takes hold meanings: gaps in milliseconds, speeds in Mbit/s, sub-links from 1.
+-- What a stored field means, and how a meaning is stored. The lists that the unpacker fills and the writer takes hold meanings: gaps in
+-- milliseconds, speeds in Mbit/s, sub-links from 1.
 -- Assumes nothing.
 use Prim.Native.Nat.{ℕ, _+_, _-_, _^_}
 use mathlib.Core.Option.{Option, none, some}

@@ -1,4 +1,5 @@
--- 01, The packed table: the fields of each section, in order, with their widths in bits and what each stands for. This is the raw layout, as data.
+-- 01, The packed table: the fields of each section, in order, with their
+-- widths in bits and what each stands for. This is the raw layout, as data.
 -- Assumes nothing.
 use Prim.Native.Nat.{ℕ, _/_}
 use mathlib.Core.List.{List, [], _∷_, map}
@@ -11,7 +12,8 @@ use Rattle.layout.specs.declared.Shape.{Shape}
 abbrev field : ℕ → Kind → Shape
 field width kind = record { 0 = width; 1 = kind }
 
--- "0 header: version 8 (=1), end systems 8, VLs 12, streams 12, ports 8, hops 12, send delay least 12, greatest 12, receive delay least 12, greatest 12, padding 4"
+-- "0 header: version 8 (=1), end systems 8, VLs 12, streams 12, ports 8, hops 12,
+-- send delay least 12, greatest 12, receive delay least 12, greatest 12, padding 4"
 -- "At most 64 end systems, 256 VLs, 512 streams, 128 ports, 1,024 hops"; "send and receive delays at most 1,875"
 unfoldable pub header : List Shape
 header =

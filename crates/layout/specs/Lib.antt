@@ -1,3 +1,4 @@
 pub mod Layout
 pub mod Fields
 pub mod Rows
+pub mod Contracts

@@ -1,19 +1,17 @@
 -- A record of a section as a row of numbers, one for each field: as they are stored, as they are meant, and the named tests that refuse it.
 -- Assumes nothing.
-use Prim.Native.Nat.{ℕ, _+_, _-_, _*_, _^_}
+use Prim.Native.Nat.{ℕ, _+_, _*_, _^_}
 use mathlib.Core.Bool.{Bool, _&&_}
 use mathlib.Core.List.{List, [], _∷_, _++_, map}
-use mathlib.Core.Option.{Option, none, some, Option·map}
+use mathlib.Core.Option.{Option}
 use lib.Dec.{leb}
 use lib.ListN.{length, getD, replicate}
 use Rattle.base.specs.Pick.{pick}
 use Rattle.base.specs.Tests.{isSome, numberOr0, firstFailing}
 use Rattle.base.specs.Tabulate.{total}
-use Rattle.bits.specs.Rows.{readAll, putAll}
+use Rattle.bits.specs.Rows.{readAll}
 use Rattle.layout.specs.declared.Shape.{Shape}
 use Rattle.layout.specs.declared.Way.{Way}
-use Rattle.layout.specs.declared.Fault.{Fault}
-use Rattle.layout.specs.declared.Fault.the-variants.{Test, Nothing}
 use Rattle.layout.specs.Layout.{layout, Order, orders, widths}
 use Rattle.layout.specs.Fields.{convert}
 
@@ -26,14 +24,6 @@ rowRoom n a ws = leb n (2 ^ 32) && leb (a + total ws) (8 * n)
 unfoldable pub rowAt : List ℕ → ℕ → ℕ → List ℕ
 rowAt bytes a section =
     pick (rowRoom (length bytes) a (widths section)) (readAll bytes a (widths section)) (replicate (length (widths section)) 0)
-
--- the bytes with these stored numbers for that row; unchanged where there is no such row
-unfoldable pub withRowAt : List ℕ → ℕ → ℕ → List ℕ → List ℕ
-withRowAt bytes a section raw = pick (rowRoom (length bytes) a (widths section)) (putAll bytes a (widths section) raw) bytes
-
--- a row in an array that has room for the 11 fields of the longest
-unfoldable pub wide : List ℕ → List ℕ
-wide row = row ++ replicate (11 - length row) 0
 
 -- ---- stored and meant
 -- each number of a row converted, 0 where it is out of range; a row that is too short goes on with zeros
@@ -57,14 +47,5 @@ fieldTests way (s ∷ ss) (n ∷ row) = isSome (convert way s n) ∷ fieldTests 
 unfoldable pub orderTests : List Order → List ℕ → List Bool
 orderTests os row = map (λ (o : Order). leb (getD row (o .lesser) 0) (getD row (o .greater) 0)) os
 
--- the first pair of fields of a section that are not in order, by its place behind the fields
-unfoldable pub orderFault : ℕ → List ℕ → Option ℕ
-orderFault section row = Option·map (λ (i : ℕ). length (layout section) + i) (firstFailing (orderTests (orders section) row))
-
 unfoldable pub rowFault : Way → ℕ → List ℕ → Option ℕ
 rowFault way section row = firstFailing (fieldTests way (layout section) row ++ orderTests (orders section) row)
-
--- what the answer of a test stands for
-unfoldable pub faultOf : Fault → Option ℕ
-faultOf (Test i) = some i
-faultOf Nothing = none

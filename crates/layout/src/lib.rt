@@ -15,7 +15,8 @@ ghost use Rattle.base.specs.Said.{ruled};
 ghost use Rattle.frame.specs.Reply.{said};
 ghost use Rattle.layout.specs.Layout.{layout, widths, size};
 ghost use Rattle.layout.specs.Fields.{meaning, storedAs, convert};
-ghost use Rattle.layout.specs.Rows.{rowRoom, rowAt, withRowAt, wide, converted, listed, orderFault, rowFault, faultOf};
+ghost use Rattle.layout.specs.Rows.{rowRoom, rowAt, converted, listed, rowFault};
+ghost use Rattle.layout.specs.Contracts.{withRowAt, wide, orderFault, faultOf};
 
 // What a stored field stands for.
 pub enum Kind {

@@ -27,7 +27,8 @@ use Rattle.rows.specs.Queues.{queueFlow, queueFlows, queueLength, queueFigure}
 use Rattle.rows.specs.Rows.{queueOf, worstParts, worst, bestParts, best, rowJitter, rowOf, rowsTo, rowsOf}
 use Rattle.station.specs.declared.Flow.{Flow}
 use Rattle.station.specs.Searching.{edge, lastArrival, improved}
-use Rattle.station.specs.Station.{most, brought, limit, inRange, allInRange, busyLength, figure}
+use Rattle.station.specs.Station.{most, brought, limit, busyLength, figure}
+use Rattle.station.specs.Offered.{inRange, allInRange}
 use Rattle.station.proofs.Computed.{climb, descend, computed-length, computed-figure}
 use Rattle.machine.specs.Sound.{Sound, Has, Busy}
 use Rattle.machine.specs.Demand3.{Holds}

@@ -13,7 +13,8 @@ use Rattle.base.specs.Tabulate.{tabulate, passing, total}
 use Rattle.base.specs.Tests.{isSome, numberOr0}
 use Rattle.base.proofs.LeastLaws.{least-none}
 use Rattle.frame.specs.Frame.{lineOf, lineOverhead, protocolOverhead, leastFrame, greatestFrame, largestLine}
-use Rattle.frame.specs.Packets.{fullPacket, packets, greatestMessage, packetsOf}
+use Rattle.frame.specs.Packets.{fullPacket, packets}
+use Rattle.frame.specs.Offered.{greatestMessage, packetsOf}
 use Rattle.frame.specs.Tick.{perByte, sendBase, sendLimit, sendsInTime}
 use Rattle.network.specs.Network.{Stream}
 use Rattle.network.specs.Views.{hopsOn, vlsOf, streamsOn}
@@ -23,7 +24,8 @@ use Rattle.rows.specs.Ports.{hopFlow, portFlows, portLength, portFigure}
 use Rattle.rows.specs.Refusals.{sendsLate, lateSystem, endlessSubLink, endlessVl}
 use Rattle.station.specs.declared.Flow.{Flow}
 use Rattle.station.specs.Answer.{said}
-use Rattle.station.specs.Station.{most, brought, limit, mostFlows, inRange, allInRange, offered, busyLength, figure, stationSays}
+use Rattle.station.specs.Station.{most, brought, limit, busyLength, figure}
+use Rattle.station.specs.Offered.{mostFlows, inRange, allInRange, offered, stationSays}
 use Rattle.station.specs.Searching.{edge, lastArrival, improved}
 use Rattle.station.proofs.AnswerLaws.{served-was, endless-was}
 use Rattle.station.proofs.Computed.{climb, descend, computed-served, computed-none}

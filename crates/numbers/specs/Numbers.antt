@@ -11,7 +11,8 @@ use Rattle.base.specs.Tabulate.{tabulate}
 use Rattle.base.specs.Tests.{numberOr0}
 use Rattle.frame.specs.declared.Speed.the-variants.{Mbit100}
 use Rattle.frame.specs.Frame.{lineOf}
-use Rattle.frame.specs.Packets.{fullPacket, packetsOf}
+use Rattle.frame.specs.Packets.{fullPacket}
+use Rattle.frame.specs.Offered.{packetsOf}
 use Rattle.frame.specs.Tick.{perByte}
 use Rattle.network.specs.Network.{Stream, Network}
 use Rattle.rows.specs.Links.{sendSum}

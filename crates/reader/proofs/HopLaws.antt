@@ -10,7 +10,8 @@ use lib.Dec.{leb, ltb, eqb}
 use lib.ListN.{length, getD}
 use Rattle.base.specs.Pick.{pick}
 use Rattle.base.specs.Said.{ruled}
-use Rattle.frame.specs.Packets.{packets, packetsOf}
+use Rattle.frame.specs.Packets.{packets}
+use Rattle.frame.specs.Offered.{packetsOf}
 use Rattle.frame.specs.Reply.{said}
 use Rattle.frame.specs.declared.Reply.{Reply}
 use Rattle.frame.specs.declared.Reply.the-variants.{Value, Refused}

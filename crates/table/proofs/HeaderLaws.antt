@@ -13,7 +13,7 @@ use lib.Seq.{take-at, take-add, take-all, length-take-le}
 use Rattle.base.specs.Tabulate.{tabulate}
 use Rattle.base.proofs.Every.{at}
 use Rattle.base.proofs.TabulateLaws.{length-tabulate, tabulate-at, tabulate-same, take-tabulate, tabulate-rows}
-use Rattle.bits.specs.Rows.{Fit}
+use Rattle.bits.specs.Tables.{Fit}
 use Rattle.bits.proofs.PartLaws.{fit-at}
 use Rattle.bits.proofs.RecordLaws.{read-part}
 use Rattle.layout.specs.declared.Way.{Way}

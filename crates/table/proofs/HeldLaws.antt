@@ -9,7 +9,7 @@ use borrow.Author.Tests.{eq-eqb}
 use lib.ListN.{length, getD, take, drop, length-append, replicate}
 use lib.Seq.{take-at, getD-take, getD-drop}
 use Rattle.layout.specs.declared.Way.the-variants.{Reading}
-use Rattle.bits.specs.Rows.{Fit}
+use Rattle.bits.specs.Tables.{Fit}
 use Rattle.layout.specs.Layout.{layout, widths, size}
 use Rattle.layout.specs.Rows.{converted, listed}
 use Rattle.layout.proofs.LayoutLaws.{listed-is}

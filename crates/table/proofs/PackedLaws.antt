@@ -8,7 +8,8 @@ use native.Mathlib.Omega.{arith}
 use lib.ListN.{length, getD, take, drop}
 use lib.Seq.{take-all}
 use Rattle.base.specs.Tabulate.{total}
-use Rattle.bits.specs.Rows.{readAll, Fit}
+use Rattle.bits.specs.Rows.{readAll}
+use Rattle.bits.specs.Tables.{Fit}
 use Rattle.layout.specs.declared.Way.the-variants.{Reading, Writing}
 use Rattle.layout.specs.Layout.{layout, widths}
 use Rattle.layout.specs.Rows.{converted, listed, rowFault}

@@ -13,7 +13,8 @@ use lib.ListN.{length, getD, take, drop, replicate, length-append, length-drop, 
 use lib.Seq.{ext-getD, getD-drop, length-take-le, take-all, drop-at, drop-append-le, take-append-le, take-add}
 use Rattle.base.specs.Pick.{pick}
 use Rattle.base.specs.Tabulate.{tabulate, total}
-use Rattle.bits.specs.Rows.{readAll, readRows, Section, sectionBits, tableBits, readTable}
+use Rattle.bits.specs.Rows.{readAll, Section, sectionBits}
+use Rattle.bits.specs.Tables.{readRows, tableBits, readTable}
 use Rattle.bits.proofs.TableLaws.{bits-more, table-more}
 use Rattle.layout.specs.declared.Kind.{Kind}
 use Rattle.layout.specs.declared.Way.the-variants.{Reading}

@@ -11,7 +11,8 @@ use lib.Seq.{ext-getD, length-take-le, take-at}
 use Rattle.base.specs.Tabulate.{tabulate, total}
 use Rattle.base.proofs.TabulateLaws.{length-tabulate, tabulate-at, tabulate-same}
 use Rattle.bits.specs.Bits.{Bytes}
-use Rattle.bits.specs.Rows.{readAll, Fit, tableBits, readTable, FitTable}
+use Rattle.bits.specs.Rows.{readAll}
+use Rattle.bits.specs.Tables.{Fit, tableBits, readTable, FitTable}
 use Rattle.bits.proofs.ByteLaws.{bytes-zero}
 use Rattle.bits.proofs.RowLaws.{length-rows, row-at, fit-rows-of}
 use Rattle.bits.proofs.TableLaws.{table-back, table-carried, length-put-table, fit-more}

@@ -14,7 +14,8 @@ use Rattle.layout.specs.declared.Way.the-variants.{Reading}
 use Rattle.layout.specs.declared.Fault.{Fault}
 use Rattle.layout.specs.declared.Fault.the-variants.{Test, Nothing}
 use Rattle.base.specs.Tests.{isSome}
-use Rattle.layout.specs.Rows.{wide, rowFault, faultOf}
+use Rattle.layout.specs.Contracts.{wide, faultOf}
+use Rattle.layout.specs.Rows.{rowFault}
 use Rattle.layout.proofs.FaultLaws.{fault-wide}
 use Rattle.layout.proofs.ReadLaws.{some-number, no-number, test-given, nothing-given}
 use Rattle.table.specs.declared.Answer.{Answer}

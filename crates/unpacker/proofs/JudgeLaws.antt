@@ -14,7 +14,8 @@ use Rattle.base.specs.Tabulate.{tabulate}
 use Rattle.base.proofs.TabulateLaws.{tabulate-at}
 use Rattle.layout.specs.declared.Way.the-variants.{Reading}
 use Rattle.base.specs.Tests.{numberOr0}
-use Rattle.layout.specs.Rows.{wide, listed, rowFault}
+use Rattle.layout.specs.Contracts.{wide}
+use Rattle.layout.specs.Rows.{listed, rowFault}
 use Rattle.table.specs.declared.Answer.{Answer}
 use Rattle.table.specs.Answers.{answer, firstGiven}
 use Rattle.table.specs.Sections.{headerRow, rows, from, records, lent}

@@ -10,7 +10,8 @@ use lib.ListN.{length, getD, take, drop, set, replicate, length-append, length-d
 use lib.Seq.{take-suc, length-take-le, getD-drop}
 use Rattle.layout.specs.declared.Way.the-variants.{Reading}
 use Rattle.layout.specs.Layout.{layout}
-use Rattle.layout.specs.Rows.{wide, converted, listed}
+use Rattle.layout.specs.Contracts.{wide}
+use Rattle.layout.specs.Rows.{converted, listed}
 use Rattle.layout.proofs.LayoutLaws.{listed-fields, few-fields, fields-are}
 use Rattle.layout.proofs.ReadLaws.{part-wide}
 use Rattle.layout.proofs.RowLaws.{length-wide, length-converted, converted-wide}

@@ -10,7 +10,8 @@ use lib.ListN.{getD, set, replicate}
 use Rattle.base.specs.Tabulate.{tabulate}
 use Rattle.base.proofs.TabulateLaws.{length-tabulate, tabulate-at}
 use Rattle.layout.specs.Layout.{size}
-use Rattle.layout.specs.Rows.{rowAt, wide}
+use Rattle.layout.specs.Rows.{rowAt}
+use Rattle.layout.specs.Contracts.{wide}
 use Rattle.layout.proofs.LayoutLaws.{size-most}
 use Rattle.layout.proofs.RowLaws.{wide-at}
 use Rattle.unpacker.specs.declared.examine.Places.{Places}

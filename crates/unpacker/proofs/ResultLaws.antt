@@ -10,7 +10,7 @@ use lib.ListN.{length, getD, replicate}
 use Rattle.base.specs.Pick.{pick}
 use Rattle.base.specs.Tabulate.{tabulate}
 use Rattle.base.proofs.TabulateLaws.{tabulate-at}
-use Rattle.layout.specs.Rows.{wide}
+use Rattle.layout.specs.Contracts.{wide}
 use Rattle.table.specs.declared.Answer.{Answer}
 use Rattle.unpacker.specs.declared.examine.Examined.{Examined}
 use Rattle.unpacker.specs.declared.judging.Judged.{Judged}

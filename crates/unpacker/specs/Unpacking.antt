@@ -11,7 +11,8 @@ use Rattle.base.specs.Pick.{pick}
 use Rattle.base.specs.Tabulate.{tabulate}
 use Rattle.layout.specs.declared.Way.the-variants.{Reading}
 use Rattle.layout.specs.Layout.{layout}
-use Rattle.layout.specs.Rows.{wide, rowFault, converted, listed}
+use Rattle.layout.specs.Contracts.{wide}
+use Rattle.layout.specs.Rows.{rowFault, converted, listed}
 use Rattle.table.specs.declared.Answer.{Answer}
 use Rattle.unpacker.specs.declared.examine.Places.{Places}
 use Rattle.unpacker.specs.declared.examine.Examined.{Examined}

@@ -5,7 +5,7 @@ use layout::Way;
 use table::Answer;
 ghost use mathlib.Core.Path.{_≡_};
 ghost use Prim.Native.Nat.{_<_};
-ghost use Rattle.layout.specs.Rows.{wide};
+ghost use Rattle.layout.specs.Contracts.{wide};
 ghost use Rattle.table.specs.Answers.{accepted};
 ghost use Rattle.table.specs.Sections.{headerRow, rows, from, row};
 ghost use Rattle.unpacker.specs.Unpacking.{RowPlace, countIn, tableAnswer, lastAnswer, answerIn, answerOf, placesOf, examined};

@@ -5,7 +5,7 @@ use mathlib.Core.List.{List, [], _∷_, _++_}
 use Prim.Native.Nat.{ℕ}
 use native.Mathlib.Omega.{arith}
 use lib.ListN.{length, getD, length-append}
-use Rattle.layout.specs.Rows.{wide}
+use Rattle.layout.specs.Contracts.{wide}
 use Rattle.layout.proofs.WideLaws.{wide-full}
 use Rattle.table.specs.Write.{Lists, recordsIn, headerFor}
 

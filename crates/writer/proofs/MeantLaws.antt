@@ -8,7 +8,8 @@ use native.Mathlib.Omega.{arith}
 use lib.ListN.{length, getD, take, drop, replicate, length-append, length-drop, length-replicate, List·getD-append}
 use lib.Seq.{length-take-le, getD-take, getD-drop, take-at}
 use Rattle.layout.specs.Layout.{layout, size}
-use Rattle.layout.specs.Rows.{wide, listed}
+use Rattle.layout.specs.Contracts.{wide}
+use Rattle.layout.specs.Rows.{listed}
 use Rattle.layout.proofs.LayoutLaws.{few-fields, listed-fields, listed-is, size-is}
 use Rattle.layout.proofs.WideLaws.{wide-padded}
 use Rattle.table.proofs.UnpackLaws.{listed-some}

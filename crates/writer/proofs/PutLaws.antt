@@ -14,7 +14,8 @@ use Rattle.bits.proofs.RowLaws.{put-rows-more, length-put-rows}
 use Rattle.bits.proofs.StepLaws.{rows-none}
 use Rattle.layout.specs.declared.Way.the-variants.{Writing}
 use Rattle.layout.specs.Layout.{layout, widths, size}
-use Rattle.layout.specs.Rows.{wide, withRowAt, converted}
+use Rattle.layout.specs.Contracts.{wide, withRowAt}
+use Rattle.layout.specs.Rows.{converted}
 use Rattle.layout.proofs.LayoutLaws.{whole-bytes}
 use Rattle.layout.proofs.RowLaws.{length-converted, converted-wide}
 use Rattle.layout.proofs.WideLaws.{put-wide}

@@ -11,7 +11,8 @@ use Rattle.base.proofs.LeastLaws.{least-is, least-none}
 use Rattle.layout.specs.declared.Fault.{Fault}
 use Rattle.layout.specs.declared.Way.the-variants.{Writing}
 use Rattle.base.specs.Tests.{isSome, numberOr0}
-use Rattle.layout.specs.Rows.{wide, rowFault, faultOf}
+use Rattle.layout.specs.Contracts.{wide, faultOf}
+use Rattle.layout.specs.Rows.{rowFault}
 use Rattle.layout.proofs.FaultLaws.{fault-wide}
 use Rattle.layout.proofs.ToldLaws.{some-told, none-told, number-told}
 use Rattle.table.specs.declared.Answer.{Answer}

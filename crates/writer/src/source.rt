@@ -5,7 +5,7 @@ ghost use Prim.Native.Nat.{_*_, _≤_, _<_};
 ghost use mathlib.Core.List.{[]};
 ghost use lib.ListN.{length};
 ghost use Rattle.layout.specs.Layout.{size};
-ghost use Rattle.layout.specs.Rows.{wide};
+ghost use Rattle.layout.specs.Contracts.{wide};
 ghost use Rattle.table.specs.Write.{headerFor, tableSize};
 ghost use Rattle.writer.specs.Writing.{lists, countIn, listRow, HasRecord};
 

@@ -6,7 +6,8 @@ use native.Mathlib.Omega.{arith}
 use lib.ListN.{take}
 use mathlib.Core.List.{[]}
 use Rattle.layout.specs.Layout.{layout}
-use Rattle.layout.specs.Rows.{wide, converted}
+use Rattle.layout.specs.Contracts.{wide}
+use Rattle.layout.specs.Rows.{converted}
 use Rattle.layout.proofs.LayoutLaws.{few-fields, narrow}
 use Rattle.layout.proofs.RowLaws.{length-converted, wide-start}
 use Rattle.layout.proofs.TurnLaws.{filled-more, filled-all, number-more}

@@ -3,7 +3,7 @@
 use mathlib.Core.Path.{sym, _∙_}
 use Prim.Native.Nat.{_-_, _≤_}
 use native.Mathlib.Omega.{arith}
-use Rattle.layout.specs.Rows.{faultOf}
+use Rattle.layout.specs.Contracts.{faultOf}
 use Rattle.layout.proofs.LayoutLaws.{few-fields, narrow}
 use Rattle.layout.proofs.FaultLaws.{GoodTo, fault-field, fault-order}
 use Rattle.layout.proofs.TurnLaws.{refused-here, good-more}

@@ -8,7 +8,8 @@ use native.Mathlib.Omega.{arith}
 use lib.ListN.{getD}
 use borrow.Author.Tests.{le-leb, lt-leb}
 use Rattle.layout.specs.Layout.{layout, header, stream, port, orders}
-use Rattle.layout.specs.Rows.{orderTests, orderFault, faultOf}
+use Rattle.layout.specs.Rows.{orderTests}
+use Rattle.layout.specs.Contracts.{orderFault, faultOf}
 use Rattle.layout.proofs.LayoutLaws.{no-orders}
 use Rattle.layout.proofs.FaultLaws.{pair-fails, pairs-pass}
 use borrow.Author.Needs.{needs}

@@ -9,7 +9,7 @@ use Rattle.bits.specs.Rows.{readAll}
 use Rattle.bits.proofs.PartLaws.{total-start}
 use Rattle.bits.proofs.RecordLaws.{length-read}
 use Rattle.layout.specs.Layout.{widths}
-use Rattle.layout.specs.Rows.{wide}
+use Rattle.layout.specs.Contracts.{wide}
 use Rattle.layout.proofs.LayoutLaws.{few-fields, length-widths}
 use Rattle.layout.proofs.RowLaws.{wide-start, wide-zeros}
 use Rattle.layout.proofs.RoomLaws.{row-none}

@@ -1,7 +1,8 @@
 -- `analysis::links::line` meets its contract: Lmax is in its range, so the frame rule gives its line size.
 -- Assumes nothing.
 use native.Mathlib.Omega.{arith}
-use Rattle.frame.specs.Frame.{largestLine, largestLineOf}
+use Rattle.frame.specs.Frame.{largestLine}
+use Rattle.frame.specs.Offered.{largestLineOf}
 use Rattle.frame.proofs.FrameLaws.{least-line-is, largest-line-bounds, largest-line-given}
 use Rattle.analysis.proofs.GivenLaws.{value-is, never-refused}
 use borrow.Author.Needs.{needs}

@@ -1,7 +1,8 @@
 -- `analysis::queues::packets` meets its contract: the sizes are such that equation 4 is asked for, and there are at most 482 packets.
 -- Assumes nothing.
 use native.Mathlib.Omega.{arith}
-use Rattle.frame.specs.Packets.{packets, packetsOf}
+use Rattle.frame.specs.Packets.{packets}
+use Rattle.frame.specs.Offered.{packetsOf}
 use Rattle.frame.proofs.PacketLaws.{packets-given}
 use Rattle.analysis.proofs.BoundLaws.{packets-bounds}
 use Rattle.analysis.proofs.GivenLaws.{value-is, never-refused}

@@ -7,7 +7,8 @@ use native.Mathlib.Omega.{arith}
 use lib.ListN.{take}
 use lib.Seq.{take-all, length-take-le}
 use Rattle.layout.specs.Layout.{size}
-use Rattle.layout.specs.Rows.{rowAt, wide}
+use Rattle.layout.specs.Rows.{rowAt}
+use Rattle.layout.specs.Contracts.{wide}
 use Rattle.layout.proofs.LayoutLaws.{size-is}
 use Rattle.table.specs.Sections.{headerRow}
 use borrow.Author.Needs.{needs}

@@ -2,7 +2,7 @@
 -- Assumes nothing.
 use mathlib.Core.Path.{sym, ap, _∙_}
 use Rattle.layout.specs.declared.Fault.{Fault}
-use Rattle.layout.specs.Rows.{faultOf}
+use Rattle.layout.specs.Contracts.{faultOf}
 use Rattle.layout.proofs.ToldLaws.{fault-test, fault-nothing}
 use Rattle.writer.specs.Writing.{headerFault}
 use borrow.Author.Needs.{needs}

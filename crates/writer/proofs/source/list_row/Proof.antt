@@ -5,7 +5,8 @@ use mathlib.Core.List.{[]}
 use Prim.Native.Nat.{_+_, _-_, _*_, _≤_}
 use native.Mathlib.Omega.{arith}
 use lib.ListN.{length, take}
-use Rattle.layout.specs.Rows.{wide, listed}
+use Rattle.layout.specs.Contracts.{wide}
+use Rattle.layout.specs.Rows.{listed}
 use Rattle.layout.proofs.LayoutLaws.{few-fields, listed-fields}
 use Rattle.layout.proofs.RowLaws.{wide-start}
 use Rattle.layout.proofs.TurnLaws.{filled-more}
