@@ -1,5 +1,5 @@
 #!/bin/sh
-# Tests everything: rt ci proves every crate from nothing, tries the must-fail edits, runs the programs and compares; the independent
+# Tests everything: docs/CLAIMS.md names what is there; rt ci proves every crate from nothing, tries the must-fail edits, runs the programs and compares; the independent
 # implementation still gives the committed answers; the suppliers' archives, from the crates just proved, link and run.
 # The last line is rt ci's own, 'N passed, 0 failed', and stands there only if all of it passed.
 set -eu
@@ -12,6 +12,7 @@ if ! command -v cargo >/dev/null; then
     apt-get update -qq && apt-get install -y -qq cargo
 fi
 
+tools/claims
 said=$(mktemp -d)
 trap 'rm -rf "$said"' EXIT
 { rt ci 2>&1 && echo proved >"$said/status"; } | tee "$said/output"
