@@ -13,10 +13,8 @@ pub enum Speed {
     Mbit10,
 }
 
-// A tick is 80 ns. What belongs to the tick is named with it.
-pub struct Tick {
-    pub count: u64,
-}
+// A tick is 80 ns. What belongs to the tick is named with it; a time itself is a plain number of ticks, so a tick has no field.
+pub struct Tick;
 
 impl Tick {
     pub const PER_MS: u64 = 12_500;
@@ -48,10 +46,8 @@ impl Tick {
     }
 }
 
-// The numbers of a frame, in bytes.
-pub struct Frame {
-    pub bytes: u64,
-}
+// The numbers of a frame, in bytes: it has no field, as a tick has none.
+pub struct Frame;
 
 impl Frame {
     pub const LINE_OVERHEAD: u64 = 20;
@@ -87,7 +83,7 @@ pub fn largest_line(lmax: u64) -> Reply
     ensures { λ r. ⌜ said r ≡ ruled (largestLineOf lmax) ⌝ }
 {
     match lmax {
-        64..=1518 => Reply::Value(Frame::LINE_OVERHEAD + lmax),
+        Frame::LEAST..=Frame::GREATEST => Reply::Value(Frame::LINE_OVERHEAD + lmax),
         _ => Reply::Refused,
     }
 }
@@ -97,7 +93,7 @@ pub fn packets_of(m: u64, lmax: u64) -> Reply
     ensures { λ r. ⌜ said r ≡ ruled (packetsOf m lmax) ⌝ }
 {
     match lmax {
-        64..=1518 => match m {
+        Frame::LEAST..=Frame::GREATEST => match m {
             1..=8192 => {
                 let full = lmax - Frame::PROTOCOL_OVERHEAD;
                 Reply::Value((m + (full - 1)) / full)
