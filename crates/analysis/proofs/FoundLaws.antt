@@ -17,7 +17,6 @@ use Rattle.station.specs.Answer.{said}
 use Rattle.station.proofs.AnswerLaws.{served-was, endless-was, never-out-of-range}
 use Rattle.station.proofs.FlatLaws.{first-long}
 use Rattle.analysis.specs.Gathering.{Found}
-use Rattle.analysis.proofs.BoundLaws.{figure-limit, offered-periodic}
 
 module _ (list : List ℕ) (n : ℕ) (long : length list ≡ 3072) (few : n ≤ 1024) (ok : offered (flowsIn list n) ≡ true) (r : Answer) (told : said r ≡ firstSays list n) where
   says : (s : Answer) → r ≡ s → said s ≡ stationSays (flowsIn list n)
@@ -31,7 +30,6 @@ module _ (list : List ℕ) (n : ℕ) (long : length list ≡ 3072) (few : n ≤ 
       record {
         endless-is = sym (ap not (some-is (busyLength fs) l (was .0)));
         figure-is = figure-is;
-        figure-bound = omega (arith, figure-limit fs (offered-periodic fs ok), figure-is);
       }
 
   pub found-endless : r ≡ Endless → Found (flowsIn list n) (record { endless = true; figure = 0 })
@@ -42,7 +40,6 @@ module _ (list : List ℕ) (n : ℕ) (long : length list ≡ 3072) (few : n ≤ 
       record {
         endless-is = sym (ap not (none-is (busyLength fs) was));
         figure-is = sym (ap (figure fs) (number-of-none (busyLength fs) was));
-        figure-bound = omega arith;
       }
 
   pub found-no-range : r ≡ OutOfRange → ⊥

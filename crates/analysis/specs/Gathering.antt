@@ -21,4 +21,3 @@ pub record Gathered (fs : List Flow) (list : List ℕ) (count : ℕ) : Type 0 wh
 pub record Found (fs : List Flow) (r : Outcome) : Type 0 where
   pub endless-is : r .endless ≡ not (isSome (busyLength fs))
   pub figure-is : r .figure ≡ figure fs (numberOr0 (busyLength fs))
-  pub figure-bound : r .figure ≤ 125000000

@@ -6,11 +6,11 @@ use Prim.Native.Nat.{ℕ, zero, suc, _+_, _*_, _≤_, _<_}
 use native.Mathlib.Nat.{not-suc-le-zero, le-of-suc-le-suc}
 use native.Mathlib.Omega.{arith}
 use lib.ListN.{length, getD}
-use Rattle.bits.specs.Bits.{Bytes, bitAt}
+use Rattle.bits.specs.Bits.{bitAt}
 use Rattle.base.specs.Tabulate.{total}
 use Rattle.bits.specs.Rows.{readAll, putAll, putRows}
 use Rattle.bits.specs.Tables.{Fit, readRows, FitRows}
-use Rattle.bits.proofs.RecordLaws.{fit-read, read-by-bits, length-put-all, bytes-put-all, outside, read-back}
+use Rattle.bits.proofs.RecordLaws.{fit-read, read-by-bits, length-put-all, outside, read-back}
 
 -- ---- the rows one by one
 -- where the first row stands, and where row i of those that begin one row on
@@ -76,14 +76,6 @@ pub length-put-rows : (s : List ℕ) (a : ℕ) (ws : List ℕ) (rows : List (Lis
 unfolding putRows
 length-put-rows s a ws [] = refl
 length-put-rows s a ws (r ∷ rows) = length-put-rows (putAll s a ws r) (a + total ws) ws rows ∙ length-put-all s a ws r
-
-pub bytes-put-rows : (s : List ℕ) (a : ℕ) (ws : List ℕ) (rows : List (List ℕ)) → a + length rows * total ws ≤ 8 * length s → Bytes s
-    → Bytes (putRows s a ws rows)
-unfolding putRows
-bytes-put-rows s a ws [] h b = b
-bytes-put-rows s a ws (r ∷ rows) h b =
-    let n = length-put-all s a ws r in
-    bytes-put-rows (putAll s a ws r) (a + total ws) ws rows (omega arith) (bytes-put-all s a ws r (omega arith) b)
 
 -- a bit outside the rows is as it was
 pub rows-outside : (s : List ℕ) (a : ℕ) (ws : List ℕ) (rows : List (List ℕ)) (i : ℕ) → a + length rows * total ws ≤ 8 * length s

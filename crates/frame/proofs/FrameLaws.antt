@@ -11,17 +11,9 @@ use Rattle.frame.specs.Frame.{lineOverhead, protocolOverhead, leastFrame
 use Rattle.frame.specs.Offered.{largestLineOf}
 
 -- ---- the numbers
-pub line-overhead-is : lineOverhead ≡ 20
-unfolding lineOverhead
-line-overhead-is = refl
-
 pub protocol-overhead-is : protocolOverhead ≡ 47
 unfolding protocolOverhead
 protocol-overhead-is = refl
-
-pub least-frame-is : leastFrame ≡ 64
-unfolding leastFrame
-least-frame-is = refl
 
 pub greatest-frame-is : greatestFrame ≡ 1518
 unfolding greatestFrame
@@ -74,9 +66,6 @@ largest-line-is l = refl
 
 pub largest-line-bounds : (lmax : ℕ) → 64 ≤ lmax → lmax ≤ 1518 → (leastLine ≤ largestLine lmax) × (largestLine lmax ≤ 1538)
 largest-line-bounds lmax h l = omega (arith, least-line-is, largest-line-is lmax)
-
-pub largest-line-mono : (l k : ℕ) → l ≤ k → largestLine l ≤ largestLine k
-largest-line-mono l k h = omega (arith, largest-line-is l, largest-line-is k)
 
 pub largest-line-given : (lmax : ℕ) → 64 ≤ lmax → lmax ≤ 1518 → largestLineOf lmax ≡ some (largestLine lmax)
 unfolding largestLineOf leastFrame greatestFrame

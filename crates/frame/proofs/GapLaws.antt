@@ -11,10 +11,10 @@ use lib.Count.{ones, trailingZeros}
 use lib.Dec.{T, eqb, eqb→eq, leb, ltb}
 use lib.ListN.{getD}
 use lib.Pow.{pow-pos, pow-mono}
-use borrow.Author.Tests.{lt-ltb, le-ltb, ltb-true, ltb-false, leb-true, eq-eqb, ne-eqb, eqb-true}
+use borrow.Author.Tests.{lt-ltb, le-ltb, ltb-true, leb-true, eq-eqb, ne-eqb, eqb-true}
 use Rattle.base.specs.Pick.{within}
 use Rattle.base.proofs.Every.{every, at, left, right, implied, is-true}
-use Rattle.base.proofs.Tests.{within-yes, within-not, pick-gave, pick-refused}
+use Rattle.base.proofs.Tests.{within-yes, within-not, pick-gave}
 use Rattle.frame.specs.Tick.{perMs}
 use Rattle.frame.specs.Gap.{gaps, gapOf, goodMs, codeOf, msOf}
 
@@ -41,10 +41,6 @@ gap-given code h = rw (lt-ltb code 8 h)
 pub gap-refused : (code : ℕ) → 8 ≤ code → gapOf code ≡ none
 unfolding gapOf
 gap-refused code h = rw (le-ltb code 8 h)
-
-pub gap-refused-was : (code : ℕ) → gapOf code ≡ none → 8 ≤ code
-unfolding gapOf
-gap-refused-was code e = ltb-false code 8 (pick-refused (ltb code 8) (getD gaps code 0) e)
 
 pub gap-was : (code g : ℕ) → gapOf code ≡ some g → (code < 8) × (g ≡ perMs * 2 ^ code)
 unfolding gapOf

@@ -8,10 +8,10 @@ use mathlib.Core.Option.{none, some}
 use Prim.Native.Nat.{ℕ, _+_, _-_, _*_, _/_, _≤_, _<_}
 use native.Mathlib.Nat.{zero-add, add-assoc}
 use native.Mathlib.Omega.{arith}
-use lib.ListN.{length, getD, replicate, length-append, length-replicate, length-map}
+use lib.ListN.{length, replicate, length-append, length-replicate, length-map}
 use Rattle.base.specs.Pick.{within}
 use Rattle.base.specs.Round.{up}
-use Rattle.base.proofs.Members.{member-at, replicate-member, sum-replicate}
+use Rattle.base.proofs.Members.{replicate-member, sum-replicate}
 use Rattle.base.proofs.RoundLaws.{up-enough, up-fewest, up-some, up-before, up-last, up-mono}
 use Rattle.base.proofs.Tests.{within-yes, within-not}
 use Rattle.frame.specs.Frame.{lineOverhead, protocolOverhead, leastFrame, greatestFrame, lineBytes, leastLine, largestLine}
@@ -26,10 +26,6 @@ full-packet-is lmax = refl
 
 pub full-packet-some : (lmax : ℕ) → protocolOverhead < lmax → 1 ≤ fullPacket lmax
 full-packet-some lmax h = omega (arith, full-packet-is lmax, protocol-overhead-is)
-
-pub greatest-message-is : greatestMessage ≡ 8192
-unfolding greatestMessage
-greatest-message-is = refl
 
 -- ---- equation 4
 pub packets-is : (m lmax : ℕ) → packets m lmax ≡ (m + (lmax - 47 - 1)) / (lmax - 47)
@@ -65,6 +61,7 @@ module _ (m lmax : ℕ) (wide : protocolOverhead < lmax) where
   pub packets-one : 1 ≤ m → m ≤ fullPacket lmax → packets m lmax ≡ 1
   packets-one h l = omega (arith, packets-some h, packets-fewest 1 (omega arith))
 
+  -- stands for 02's count of packets as IP cuts them (M-103), whose new rule keeps it
   pub packets-one-was : packets m lmax ≡ 1 → m ≤ fullPacket lmax
   packets-one-was e = let l = rw e at packets-enough in omega arith
 
@@ -109,9 +106,6 @@ module _ (m lmax : ℕ) (wide : protocolOverhead < lmax) where
       (λ i. let e = List·Memᴰ·eq-of-singleton i in omega (arith, last-some m lmax wide, last-fits m lmax wide))
       (List·Memᴰ·append-cases (replicate before full) member)
 
-  pub cut-payload-at : 1 ≤ m → (i : ℕ) → i < packets m lmax → (1 ≤ getD (cut m lmax) i 0) × (getD (cut m lmax) i 0 ≤ fullPacket lmax)
-  cut-payload-at h i l = cut-payload h (getD (cut m lmax) i 0) (member-at (cut m lmax) i 0 (rw (cut-length h) l))
-
 -- ---- the line sizes of the packets
 pub packet-lines-length : (m lmax : ℕ) → protocolOverhead < lmax → 1 ≤ m → length (packetLines m lmax) ≡ packets m lmax
 unfolding packetLines
@@ -132,8 +126,3 @@ module _ (m lmax : ℕ) (low : 64 ≤ lmax) (high : lmax ≤ 1518) (some-bytes :
       let from = Memᴰ·of-map lineBytes (cut m lmax) member in
       let fits = cut-payload m lmax wide some-bytes (from .0) (from .1) in
       subst (λ (x : ℕ). (leastLine ≤ x) × (x ≤ largestLine lmax)) (from .2) (payload-line (from .0) fits)
-
-  pub packet-lines-between-at :
-      (i : ℕ) → i < packets m lmax → (leastLine ≤ getD (packetLines m lmax) i 0) × (getD (packetLines m lmax) i 0 ≤ largestLine lmax)
-  packet-lines-between-at i l =
-      packet-lines-between (getD (packetLines m lmax) i 0) (member-at (packetLines m lmax) i 0 (rw (packet-lines-length m lmax wide some-bytes) l))

@@ -28,10 +28,6 @@ pub per-byte-least : (s : Speed) → 1 ≤ perByte s
 per-byte-least Mbit100 = omega (arith, per-byte-at-100)
 per-byte-least Mbit10 = omega (arith, per-byte-at-10)
 
-pub per-byte-most : (s : Speed) → perByte s ≤ 10
-per-byte-most Mbit100 = omega (arith, per-byte-at-100)
-per-byte-most Mbit10 = omega (arith, per-byte-at-10)
-
 -- ---- equation 1: 5,750 ticks are left for the frames
 pub sends-in-time-is : (sum : ℕ) → sendsInTime sum ≡ leb sum 5750
 unfolding sendsInTime sendBase sendLimit

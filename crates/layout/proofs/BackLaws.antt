@@ -144,9 +144,5 @@ module _ (section : ℕ) (vs : List ℕ) (ok : rowFault Writing section vs ≡ n
   pub written-readable : rowFault Reading section (converted Writing (layout section) vs) ≡ none
   written-readable = faultless-back Writing section vs g Reading (λ k h. meant-back k h .1)
 
-  pub written-at : (k : ℕ) → k < length (layout section)
-      → getD (converted Reading (layout section) (converted Writing (layout section) vs)) k 0 ≡ getD vs k 0
-  written-at = back-at Writing section vs g Reading (λ k h. meant-back k h .1)
-
   pub written-read : length vs ≡ length (layout section) → converted Reading (layout section) (converted Writing (layout section) vs) ≡ vs
   written-read long = row-back Writing section vs g Reading (λ k h. meant-back k h .1) long

@@ -30,6 +30,7 @@ module _ (net : Network) (p : ℕ) where
   pub on-port-at : (k : ℕ) → k < length (hopsOn net p) → (getD (hopsOn net p) k 0 < length (net .hops)) × (hopAt net (getD (hopsOn net p) k 0) .port ≡ p)
   on-port-at k h = on-port (getD (hopsOn net p) k 0) (member-at (hopsOn net p) k 0 h)
 
+  -- this and the next stand for 02's index of hops by port (M-109): it holds every hop once, in row order
   pub on-port-place : (h : ℕ) → h < length (net .hops) → hopAt net h .port ≡ p → Place (hopsOn net p) h
   unfolding hopsOn
   on-port-place h l e = passing-place (λ h. eqb (hopAt net h .port) p) (length (net .hops)) h l (eq-eqb (hopAt net h .port) p e)

@@ -119,6 +119,7 @@ module _ (net : Network) where
       (λ k. absurd (true≢false (sym e ∙ root-not-longer n h k)))
       (λ g k. ap suc (route-longer n g (sym (child-longer n h g k) ∙ e)))
 
+  -- stands, as route-root and route-whole below, for 02's renumbering of ports along routes (M-111)
   pub route-not-longer : (n m h : ℕ) → routeLonger net n h ≡ false → length (routeOf net m h) ≤ n
   route-not-longer n m h e = elim (decLe n m) [
     | yes l ↦ rw (route-enough n m h e l) (route-short n h)
@@ -169,12 +170,14 @@ module _ (net : Network) (refs : References net) where
     pub route-ends : (i : ℕ) → suc i ≡ length (routeOf net 8 h) → hopAt net (getD (routeOf net 8 h) i 0) .parent ≡ none
     route-ends i k = route-last net 8 h i (refs .not-deep h l) k
 
+    -- for M-111
     pub route-root : Root net h
     route-root =
         let there = route-some net 8 h (omega arith) in
         let last = length (routeOf net 8 h) - 1 in
         record { at = getD (routeOf net 8 h) last 0; place = refl; no-parent = route-ends last (omega arith); on = on-route-at last (omega arith) }
 
+    -- for M-111
     pub route-whole : (n : ℕ) → 8 ≤ n → routeOf net n h ≡ routeOf net 8 h
     route-whole n k = route-enough net 8 n h (refs .not-deep h l) k
 

@@ -94,7 +94,6 @@ pick-passed false a o os h e = (refl, e)
 pub record Accepts (bytes : List ℕ) (room : ℕ) : Type 0 where
   pub reads : readAnswer bytes ≡ accepted
   pub no-late-system : lateSystem (networkIn bytes) ≡ none
-  pub few-rows : length (rowsOf (networkIn bytes)) ≤ 1024
   pub rows-fit : 6 * length (rowsOf (networkIn bytes)) ≤ room
   pub no-endless-vl : endlessVl (networkIn bytes) ≡ none
   pub no-endless-port : endlessPort (networkIn bytes) ≡ none
@@ -115,7 +114,6 @@ module _ (bytes : List ℕ) (room : ℕ) where
       record {
         reads = accepted-front (readers bytes) later e;
         no-late-system = p7 .0;
-        few-rows = ltb-false 1024 (length (rowsOf net)) (p8 .0);
         rows-fit = ltb-false room (6 * length (rowsOf net)) (q8 .0);
         no-endless-vl = p9 .0;
         no-endless-port = p10 .0;

@@ -1,4 +1,4 @@
--- What the reader's acceptance says of the network: every number is in 01's ranges, every reference is good, and every sampling message is one packet.
+-- What the reader's acceptance says of the network: every number is in 01's ranges, and every reference is good.
 -- Assumes nothing.
 use Prim.Native.Nat.{ℕ, zero, suc, _+_, _*_, _≤_, _<_}
 use mathlib.Core.List.{List}
@@ -20,18 +20,18 @@ use Rattle.layout.specs.Rows.{converted, listed}
 use Rattle.layout.proofs.LayoutLaws.{listed-is}
 use Rattle.layout.proofs.PlainLaws.{header-plain}
 use Rattle.network.specs.Network.{Network, systemAt, vlAt, streamAt, portAt}
-use Rattle.network.specs.References.{badReference, badSample}
-use Rattle.network.specs.ReferenceFacts.{References, SamplesFit}
+use Rattle.network.specs.References.{badReference}
+use Rattle.network.specs.ReferenceFacts.{References}
 use Rattle.network.specs.Ranges.{SpeedRange, VlRange, StreamRange, PortRange, Ranges}
-use Rattle.network.proofs.ReferenceLaws.{references-hold, samples-fit}
+use Rattle.network.proofs.ReferenceLaws.{references-hold}
 use Rattle.table.specs.declared.Answer.{Answer}
-use Rattle.table.specs.Answers.{answer, accepted}
+use Rattle.table.specs.Answers.{accepted}
 use Rattle.table.specs.Sections.{headerRow, rows, row}
 use Rattle.table.specs.Unpack.{delaysOf}
 use Rattle.table.specs.Write.{listFor, recordsIn}
 use Rattle.table.specs.RoundTrip.{unpacked}
 use Rattle.table.specs.Decoded.{numberAt, ticksAt}
-use Rattle.table.specs.Read.{networkIn, badRefSection, answerAtReference, answer5, answer6, readAnswer}
+use Rattle.table.specs.Read.{networkIn, badRefSection, answerAtReference, answer5, readAnswer}
 use Rattle.table.proofs.AnswerLaws.{Sound, unpack-was}
 use Rattle.table.proofs.WriteLaws.{count}
 use Rattle.table.proofs.UnpackLaws.{count-is}
@@ -39,7 +39,7 @@ use Rattle.table.proofs.DecodedLaws.{send-least, send-greatest, receive
 use Rattle.table.proofs.ReadingLaws.{few, readersLengths, readers-roomy, read-accepts}
 use Rattle.table.proofs.HeldLaws.{record-number, system-row, vl-row, stream-row, port-row}
 
--- ---- 5 and 6 are not given
+-- ---- 5 is not given
 no-bad-section : (net : Network) → answer5 net ≡ none → (s : ℕ) → 2 ≤ s → s < 6 → badReference net s ≡ none
 unfolding answer5 badRefSection
 no-bad-section net e s a b = no-row-was (badReference net) 2 4 (go (badRefSection net) e) s a (omega arith)
@@ -48,22 +48,11 @@ no-bad-section net e s a b = no-row-was (badReference net) 2 4 (go (badRefSectio
     go none h = refl
     go (some t) h = absurd (Option·some-ne-none _ h)
 
-no-bad-stream : (net : Network) → answer6 net ≡ none → badSample net ≡ none
-unfolding answer6
-no-bad-stream net = go (badSample net)
-  where
-    go : (o : Option ℕ) → _≡_ {A = Option Answer} (elim o [ none ↦ none | some s ↦ some (answer 6 3 s 0) ]) none → o ≡ none
-    go none h = refl
-    go (some s) h = absurd (Option·some-ne-none _ h)
-
 pub read-references : (bytes : List ℕ) → readAnswer bytes ≡ accepted → References (networkIn bytes)
 read-references bytes e =
     let net = networkIn bytes in
     let good = no-bad-section net (read-accepts bytes e .none5) in
     references-hold net (good 2 (omega arith) (omega arith)) (good 3 (omega arith) (omega arith)) (good 5 (omega arith) (omega arith))
-
-pub read-samples : (bytes : List ℕ) → readAnswer bytes ≡ accepted → SamplesFit (networkIn bytes)
-read-samples bytes e = samples-fit (networkIn bytes) (no-bad-stream (networkIn bytes) (read-accepts bytes e .none6))
 
 pub read-sound : (bytes : List ℕ) → readAnswer bytes ≡ accepted → Sound bytes
 read-sound bytes e = unpack-was bytes readersLengths (read-accepts bytes e .unpacks readersLengths readers-roomy)

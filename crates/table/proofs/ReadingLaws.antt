@@ -10,13 +10,13 @@ use borrow.Author.Tests.{le-leb}
 use lib.Dec.{ltb, eqb}
 use lib.ListN.{length}
 use Rattle.base.specs.Pick.{pick}
-use Rattle.base.specs.Tests.{numberOr0, numberOr0 as testOr0}
+use Rattle.base.specs.Tests.{numberOr0}
 use Rattle.layout.specs.declared.Way.the-variants.{Reading}
 use Rattle.layout.specs.Rows.{listed, rowFault}
 use Rattle.layout.proofs.LayoutLaws.{listed-is}
 use Rattle.layout.proofs.PlainLaws.{header-plain}
 use Rattle.network.specs.Network.{Network}
-use Rattle.network.specs.References.{badReference, badSample}
+use Rattle.network.specs.References.{badReference}
 use Rattle.table.specs.declared.Answer.{Answer}
 use Rattle.table.specs.Answers.{answer, accepted, firstGiven}
 use Rattle.table.specs.Sections.{headerRow, rows, from}
@@ -59,7 +59,7 @@ module _ (bytes : List ℕ) where
   unfolding answer4 answerAtRow
   refusing4 = go (badSection bytes)
     where
-      go : (o : Option ℕ) → Refusing (elim o [ none ↦ none | some s ↦ some (answerAtRow bytes s (testOr0 (badRow bytes s))) ])
+      go : (o : Option ℕ) → Refusing (elim o [ none ↦ none | some s ↦ some (answerAtRow bytes s (numberOr0 (badRow bytes s))) ])
       go none = tt
       go (some s) = omega arith
 
@@ -85,14 +85,6 @@ module _ (net : Network) where
   refusing5 = go (badRefSection net)
     where
       go : (o : Option ℕ) → Refusing (elim o [ none ↦ none | some s ↦ some (answerAtReference net s (numberOr0 (badReference net s))) ])
-      go none = tt
-      go (some s) = omega arith
-
-  refusing6 : Refusing (answer6 net)
-  unfolding answer6
-  refusing6 = go (badSample net)
-    where
-      go : (o : Option ℕ) → Refusing (elim o [ none ↦ none | some s ↦ some (answer 6 3 s 0) ])
       go none = tt
       go (some s) = omega arith
 
@@ -190,7 +182,6 @@ module _ (bytes : List ℕ) (n : Lengths) (big : Roomy n) where
 -- ---- what acceptance by the reader says: nothing was given, and the unpacker accepts too
 pub record Nothing (bytes : List ℕ) : Type 0 where
   pub none5 : answer5 (networkIn bytes) ≡ none
-  pub none6 : answer6 (networkIn bytes) ≡ none
   pub unpacks : (n : Lengths) → Roomy n → unpackAnswer bytes n ≡ accepted
 
 pub read-accepts : (bytes : List ℕ) → readAnswer bytes ≡ accepted → Nothing bytes
@@ -199,9 +190,7 @@ read-accepts bytes e =
     let net = networkIn bytes in
     let p = four bytes (answer5 net ∷ answer6 net ∷ []) (ap (λ (a : Answer). a .number) e) in
     let p5 = passed (answer5 net) (answer6 net ∷ []) (refusing5 net) (p .then) in
-    let p6 = passed (answer6 net) [] (refusing6 net) (p5 .1) in
     record {
       none5 = p5 .0;
-      none6 = p6 .0;
       unpacks = λ n big. rw (p .none1, p .none2, p .none3, p .none4, enough bytes n big (header-good bytes n big (p .none2)));
     }
