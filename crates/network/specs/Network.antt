@@ -1,5 +1,5 @@
--- A network as a value: what a packed table says once it is decoded. Every time is in ticks; rows are numbered from 0; there are no bytes here.
--- Table, rows and the tick machine all speak of this one. Assumes nothing.
+-- A network as a value: what a packed table says once it is decoded. Every time is in ticks; rows are numbered from 0; there are no bytes
+-- here. Table, rows and the tick machine all speak of this one. Assumes nothing.
 use Prim.Native.Nat.{ℕ}
 use mathlib.Core.Bool.{Bool, false}
 use mathlib.Core.List.{List}

@@ -1,5 +1,5 @@
--- 01's ranges as plain facts of a network: what every number of an accepted table's network keeps to, in ticks and bytes. (That each reference is good is `References`.)
--- Assumes nothing.
+-- 01's ranges as plain facts of a network: what every number of an accepted table's network keeps to, in ticks and bytes. (That each
+-- reference is good is `References`.) No demand is stated by them; proofs above stand on them. Assumes nothing.
 use Prim.Native.Nat.{ℕ, _≤_, _<_}
 use mathlib.Core.Logic.{_⊎_}
 use mathlib.Core.Option.{some}

@@ -1,5 +1,5 @@
--- What the tests of references say together, as plain facts: exactly then no reference is bad (proved in proofs/ReferenceLaws.antt). No demand is stated by them; proofs above stand on them.
--- Assumes nothing.
+-- What the tests of references say together, as plain facts: exactly then no reference is bad (proved in proofs/ReferenceLaws.antt).
+-- No demand is stated by them; proofs above stand on them. Assumes nothing.
 use Prim.Native.Nat.{ℕ, _≤_, _<_}
 use mathlib.Core.Bool.{true, false}
 use mathlib.Core.Logic.{_↔_}
@@ -32,12 +32,14 @@ pub record References (net : Network) : Type 0 where
 
 -- answer 5 is not given exactly if they hold; the sections that name nothing have no bad reference in any case
 abbrev pub References-exactly : Type 0
-References-exactly = (net : Network) → References net ↔ ((badReference net 2 ≡ none) × (badReference net 3 ≡ none) × (badReference net 5 ≡ none))
+References-exactly =
+    (net : Network) → References net ↔ ((badReference net 2 ≡ none) × (badReference net 3 ≡ none) × (badReference net 5 ≡ none))
 
 -- the same of answer 6: every message of a sampling stream is one packet at most
 abbrev pub SamplesFit : Network → Type 0
 SamplesFit net =
-    (s : ℕ) → s < length (net .streams) → streamAt net s .sampling ≡ true → packets (streamAt net s .size) (vlAt net (streamAt net s .vl) .lmax) ≤ 1
+    (s : ℕ) → s < length (net .streams) → streamAt net s .sampling ≡ true
+    → packets (streamAt net s .size) (vlAt net (streamAt net s .vl) .lmax) ≤ 1
 
 abbrev pub Samples-exactly : Type 0
 Samples-exactly = (net : Network) → SamplesFit net ↔ (badSample net ≡ none)

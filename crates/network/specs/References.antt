@@ -25,7 +25,8 @@ streamNamesVl net s = ltb (streamAt net s .vl) (length (net .vls))
 unfoldable pub namesSubLink : Network → ℕ → Bool
 namesSubLink net s = ltb (streamAt net s .subLink) (vlAt net (streamAt net s .vl) .subLinks)
 
--- ---- hops: "a hop names no VL or port, its parent is not an earlier row of the same VL on a lower-numbered port, an earlier hop has the same VL and port, or it is deeper than 8"
+-- ---- hops: "a hop names no VL or port, its parent is not an earlier row of the same VL on a lower-numbered port,
+-- an earlier hop has the same VL and port, or it is deeper than 8"
 unfoldable pub hopNamesVl : Network → ℕ → Bool
 hopNamesVl net h = ltb (hopAt net h .vl) (length (net .vls))
 
@@ -70,7 +71,8 @@ streamTests net s = streamNamesVl net s ∷ namesSubLink net s ∷ []
 
 unfoldable pub hopTests : Network → ℕ → List Bool
 hopTests net h =
-    hopNamesVl net h ∷ namesPort net h ∷ parentEarlier net h ∷ parentSameVl net h ∷ parentLowerPort net h ∷ noEarlierTwin net h ∷ notTooDeep net h ∷ []
+    hopNamesVl net h ∷ namesPort net h ∷ parentEarlier net h ∷ parentSameVl net h ∷ parentLowerPort net h
+    ∷ noEarlierTwin net h ∷ notTooDeep net h ∷ []
 
 -- the first test that fails, of a row of a section
 unfoldable pub refFault : Network → ℕ → ℕ → Option ℕ

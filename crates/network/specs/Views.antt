@@ -1,5 +1,5 @@
--- What is read off a network again and again: the VLs of an end system, the streams of a sub-link, the hops of a port and of a route, the destinations of a VL. Figures and tick machine both speak of these.
--- Assumes nothing.
+-- What is read off a network again and again: the VLs of an end system, the streams of a sub-link, the hops of a port and of a
+-- route, the destinations of a VL. Figures and tick machine both speak of these. Assumes nothing.
 use Prim.Native.Nat.{ℕ, zero, suc}
 use mathlib.Core.Bool.{Bool, false, _&&_, not}
 use mathlib.Core.List.{List, [], _∷_}

@@ -1,5 +1,5 @@
--- A frame on a link: the most and the least ticks that it takes on an end system's link and on a port's. Everything that belongs to a link stands here.
--- Assumes nothing.
+-- A frame on a link: the most and the least ticks that it takes on an end system's link and on a port's. Everything that
+-- belongs to a link stands here. Assumes nothing.
 use Prim.Native.Nat.{ℕ, _-_, _*_}
 use mathlib.Core.Bool.{_&&_, not}
 use mathlib.Core.List.{map}
@@ -29,7 +29,8 @@ sendSum net e = total (map (sendMost net) (vlsOf net e))
 
 -- "Mux wait of a VL: sum of (20 + Lmax) × ticks per byte over the other VLs of its end system."
 unfoldable pub muxWait : Network → ℕ → ℕ
-muxWait net v = total (map (sendMost net) (passing (λ u. eqb (vlAt net u .system) (vlAt net v .system) && not (eqb u v)) (length (net .vls))))
+muxWait net v =
+    total (map (sendMost net) (passing (λ u. eqb (vlAt net u .system) (vlAt net v .system) && not (eqb u v)) (length (net .vls))))
 
 -- ---- a port's link, for the frames of a hop on it
 -- "C = (20 + Lmax) × ticks per byte of the port"

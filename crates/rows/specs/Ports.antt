@@ -1,5 +1,5 @@
--- 01, Port: "one flow for each hop on it, T = BAG, C = (20 + Lmax) × ticks per byte of the port", and the jitters of hops, as equations on the figures and jitters of the hops.
--- Assumes nothing.
+-- 01, Port: "one flow for each hop on it, T = BAG, C = (20 + Lmax) × ticks per byte of the port", and the jitters of hops, as
+-- equations on the figures and jitters of the hops. Assumes nothing.
 use Prim.Native.Nat.{ℕ, zero, suc, _+_, _-_, _<_}
 use mathlib.Core.List.{List, map}
 use mathlib.Core.Option.{Option, none, some}
@@ -37,7 +37,8 @@ childJitter net h g parentJitter parentFigure = parentJitter + (parentFigure - h
 pub record Figures (net : Network) (figureAt jitterAt : ℕ → ℕ) : Type 0 where
   pub figure-is : (h : ℕ) → h < length (net .hops) → figureAt h ≡ portFigure net jitterAt (hopAt net h .port)
   pub root-is : (h : ℕ) → h < length (net .hops) → hopAt net h .parent ≡ none → jitterAt h ≡ rootJitter net h
-  pub child-is : (h g : ℕ) → h < length (net .hops) → hopAt net h .parent ≡ some g → jitterAt h ≡ childJitter net h g (jitterAt g) (figureAt g)
+  pub child-is : (h g : ℕ) → h < length (net .hops) → hopAt net h .parent ≡ some g
+      → jitterAt h ≡ childJitter net h g (jitterAt g) (figureAt g)
 
 -- the one solution, for parents on lower-numbered ports: what the hops on ports below n have
 unfoldable pub jitterBelow : Network → ℕ → ℕ → ℕ

@@ -1,5 +1,5 @@
--- 01, Queue figure of a sub-link with a stream: "flows are its streams, J raised by (greatest − least send delay), C = p × n × BAG where n is the VL's number of sub-links; the station figure less one BAG."
--- Assumes nothing.
+-- 01, Queue figure of a sub-link with a stream: "flows are its streams, J raised by (greatest − least send delay),
+-- C = p × n × BAG where n is the VL's number of sub-links; the station figure less one BAG." Assumes nothing.
 use Prim.Native.Nat.{ℕ, _+_, _-_, _*_}
 use mathlib.Core.List.{List, map}
 use mathlib.Core.Option.{Option}

@@ -1,5 +1,5 @@
--- 01, Result rows: "For each stream in order, each hop of its VL that is nobody's parent, in order: stream, hop, queue, worst, best, jitter." Worst and best are each the sum of a list of parts.
--- Assumes nothing.
+-- 01, Result rows: "For each stream in order, each hop of its VL that is nobody's parent, in order: stream, hop, queue, worst, best,
+-- jitter." Worst and best are each the sum of a list of parts. Assumes nothing.
 use Prim.Native.Nat.{ℕ, zero, suc, _+_, _-_, _*_}
 use mathlib.Core.List.{List, [], _∷_, _++_, map}
 use lib.ListN.{length}
@@ -15,7 +15,8 @@ use Rattle.rows.specs.Ports.{figureOf}
 unfoldable pub queueOf : Network → ℕ → ℕ
 queueOf net s = queueFigure net (streamAt net s .vl) (streamAt net s .subLink)
 
--- "worst = greatest send delay + queue + mux wait + (20 + Lmax) × ticks per byte + over the route (greatest switch delay + port figure) + greatest receive delay"
+-- "worst = greatest send delay + queue + mux wait + (20 + Lmax) × ticks per byte + over the route
+-- (greatest switch delay + port figure) + greatest receive delay"
 unfoldable pub worstParts : Network → (ℕ → ℕ) → ℕ → ℕ → List ℕ
 worstParts net figureAt s h =
     net .sendGreatest ∷ queueOf net s ∷ muxWait net (streamAt net s .vl) ∷ sendMost net (streamAt net s .vl)

@@ -59,7 +59,9 @@ needs bytes section = rows bytes section * listed section
 -- "11: writer or unpacker: a lent result is too short"
 unfoldable pub answer11 : List ℕ → Lengths → Option Answer
 answer11 bytes n =
-    pick (leb 4 (n .delays) && (leb (needs bytes 1) (n .systems) && (leb (needs bytes 2) (n .vls) && (leb (needs bytes 3) (n .streams) && (leb (needs bytes 4) (n .ports) && leb (needs bytes 5) (n .hops))))))
+    pick
+    (leb 4 (n .delays) && (leb (needs bytes 1) (n .systems) && (leb (needs bytes 2) (n .vls)
+    && (leb (needs bytes 3) (n .streams) && (leb (needs bytes 4) (n .ports) && leb (needs bytes 5) (n .hops))))))
     none (some (answer 11 0 0 0))
 
 unfoldable pub unpackAnswer : List ℕ → Lengths → Answer

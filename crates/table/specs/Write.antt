@@ -1,5 +1,5 @@
--- 01, Answers by number: "The writer takes its counts from its lists and gives 2 (also for a list that is no whole number of records), 4 (also for a value wider than its field), 11." And what it leaves in the lent bytes.
--- Assumes nothing.
+-- 01, Answers by number: "The writer takes its counts from its lists and gives 2 (also for a list that is no whole number of records),
+-- 4 (also for a value wider than its field), 11." And what it leaves in the lent bytes. Assumes nothing.
 use Prim.Native.Nat.{ℕ, zero, suc, _+_, _-_, _*_, _/_, _%_}
 use mathlib.Core.Bool.{Bool, _&&_}
 use mathlib.Core.List.{List, [], _∷_, _++_}
@@ -43,13 +43,16 @@ headerFor ls =
 
 -- record i of a section, with padding of zero where it has padding
 unfoldable pub meantRow : Lists → ℕ → ℕ → List ℕ
-meantRow ls section i = take (listed section) (drop (i * listed section) (listFor ls section)) ++ replicate (length (layout section) - listed section) 0
+meantRow ls section i =
+    take (listed section) (drop (i * listed section) (listFor ls section)) ++ replicate (length (layout section) - listed section) 0
 
--- every list is a whole number of records: four delays, and for a section a multiple of its numbers (an end system is one number, so any list of them is whole)
+-- every list is a whole number of records: four delays, and for a section a multiple of its numbers (an end
+-- system is one number, so any list of them is whole)
 unfoldable pub whole : Lists → Bool
 whole ls =
     eqb (length (ls .delays)) 4
-    && (eqb (length (ls .vls) % listed 2) 0 && (eqb (length (ls .streams) % listed 3) 0 && (eqb (length (ls .ports) % listed 4) 0 && eqb (length (ls .hops) % listed 5) 0)))
+    && (eqb (length (ls .vls) % listed 2) 0 && (eqb (length (ls .streams) % listed 3) 0
+    && (eqb (length (ls .ports) % listed 4) 0 && eqb (length (ls .hops) % listed 5) 0)))
 
 -- 2: a list that is no whole number of records, a count or a delay out of range
 unfoldable pub write2 : Lists → Option Answer
