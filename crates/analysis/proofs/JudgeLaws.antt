@@ -207,7 +207,7 @@ module _ (bytes : List ℕ) where
         let net = networkIn bytes in
         none-of-six (answer7 net ∷ answer8 net room ∷ answer9 net ∷ answer10 net ∷ []) (ap (λ (a : Answer). a .number) e)
 
-    analysis-refused : 0 < readAnswer bytes .number → analysisAnswer bytes room ≡ readAnswer bytes
+    pub analysis-refused : 0 < readAnswer bytes .number → analysisAnswer bytes room ≡ readAnswer bytes
     unfolding analysisAnswer readAnswer
     analysis-refused =
         let net = networkIn bytes in

@@ -2,7 +2,7 @@
 -- Assumes nothing.
 use Prim.Native.Nat.{_<_}
 use mathlib.Core.Bool.{false}
-use mathlib.Core.Path.{_≡_, ap, _∙_}
+use mathlib.Core.Path.{_≡_, sym, ap, _∙_}
 use native.Mathlib.Omega.{arith}
 use borrow.Author.Tests.{ne-eqb}
 use lib.Dec.{eqb}
@@ -10,6 +10,7 @@ use Rattle.table.specs.declared.Answer.{Answer}
 use Rattle.table.specs.Unpack.{unpackAnswer, unpacks, left, taken}
 use Rattle.table.specs.Write.{writeAnswer, writes}
 use Rattle.analysis.specs.Analysis.{analysisAnswer, accepts, rowsLeft, rowsGiven}
+use Rattle.analysis.proofs.JudgeLaws.{analysis-refused}
 use Rattle.order.specs.Demand1.{Demand-1}
 
 -- an answer with a number is no acceptance
@@ -22,6 +23,7 @@ demand-1 = record {
   analysis = λ bytes room r result a.
       let no : 0 < r .answer .number → accepts bytes room ≡ false = refused (r .answer) (analysisAnswer bytes room) (a .answer-is) in
       record { answer = a .answer-is; no-rows = λ h. a .count-is ∙ rw (no h); all-zero = λ h. a .rows-are ∙ rw (no h) };
+  reader = λ bytes r e. record { answer = e; analysis-alike = λ h room. analysis-refused bytes room (rw e at h) ∙ sym e };
   unpacker = λ bytes n r delays systems vls streams ports hops u.
       let no : 0 < r .answer .number → unpacks bytes n ≡ false = refused (r .answer) (unpackAnswer bytes n) (u .answer) in
       record {
