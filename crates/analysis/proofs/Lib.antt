@@ -15,4 +15,3 @@ pub mod RowLaws
 pub mod JoinLaws
 pub mod JudgeLaws
 pub mod Unique
-pub mod Exact

@@ -6,22 +6,16 @@ use mathlib.Core.List.{List, [], _∷_}
 use mathlib.Core.Path.{_≡_, sym, ap, _∙_}
 use native.Mathlib.Omega.{arith}
 use borrow.Author.Tests.{eq-eqb}
-use lib.ListN.{length, getD, take, drop, length-drop}
-use lib.Seq.{length-take-le}
-use Rattle.layout.specs.declared.Way.the-variants.{Reading}
-use Rattle.layout.specs.Layout.{layout}
-use Rattle.layout.specs.Rows.{converted}
-use Rattle.layout.proofs.LayoutLaws.{fields-are}
-use Rattle.layout.proofs.RowLaws.{length-converted}
+use lib.ListN.{length, getD, take}
 use Rattle.table.specs.declared.Answer.{Answer}
 use Rattle.table.specs.declared.Unpacked.{Unpacked}
 use Rattle.table.specs.Answers.{accepted}
-use Rattle.table.specs.Sections.{headerRow}
 use Rattle.table.specs.Unpack.{unpackAnswer, unpacks, delaysOf, left, Unpacks}
 use Rattle.table.specs.RoundTrip.{unpacked}
 use Rattle.table.specs.Decoded.{networkOf}
 use Rattle.table.specs.Read.{networkIn, readAnswer}
 use Rattle.table.proofs.LentLaws.{lent-whole}
+use Rattle.table.proofs.UnpackLaws.{length-delays}
 use Rattle.table.proofs.ReadingLaws.{readersLengths, readers-roomy, read-accepts}
 use Rattle.table.proofs.HeldLaws.{counts-few, systems-count, vls-count, streams-count, ports-count, hops-count, systems-front, vls-front, streams-front, ports-front, hops-front}
 use Rattle.table.proofs.ReadLaws.{read-references, read-ranges}
@@ -96,12 +90,6 @@ module _ {delays counts systems vls streams ports hops : List ℕ} (s₀ : List 
         ports-in = k₇ 4681 384 (omega arith) ∙ put-there s₅ 4681 ports e₆ l₅ f₆ 384 (long .ports-long);
         hops-in = put-there s₆ 5065 hops e₇ l₆ f₇ 3072 (long .hops-long);
       }
-
-length-delays : (bytes : List ℕ) → length (delaysOf bytes) ≡ 4
-unfolding delaysOf
-length-delays bytes =
-    let vs = converted Reading (layout 0) (headerRow bytes) in
-    length-take-le 4 (drop 6 vs) (omega (arith, length-drop 6 vs, length-converted Reading (layout 0) (headerRow bytes), fields-are 0))
 
 -- ---- the lists of an accepted table
 module _ {bytes : List ℕ} {r : Unpacked} {delays systems vls streams ports hops sheet : List ℕ} (e : readAnswer bytes ≡ accepted)

@@ -1,5 +1,4 @@
 pub mod Analysis
-pub mod Exact
 pub mod Sheet
 pub mod Reading
 pub mod Computing

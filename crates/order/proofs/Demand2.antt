@@ -6,12 +6,13 @@ use Rattle.table.specs.Read.{networkIn}
 use Rattle.table.specs.Unpack.{left}
 use Rattle.rows.proofs.PortLaws.{figures-of, figure-unique, jitter-unique}
 use Rattle.analysis.specs.Analysis.{rowsLeft, rowsGiven}
-use Rattle.analysis.proofs.Exact.{exact-9, exact-10, exact-accepted, exact-three}
 use Rattle.order.specs.Demand2.{Demand-2}
 use Rattle.order.proofs.AcceptedLaws.{accepted-was, accepts-so}
 use Rattle.order.proofs.SoundLaws.{accepted-references, accepted-sound, accepted-busy}
+use Rattle.order.proofs.Exact.{exact-9, exact-10, exact-accepted, exact-three, jitters-exist, one-list-of-flows}
 use Rattle.order.proofs.CutOffLaws.{nothing-cut-off}
-use Rattle.order.proofs.AgainLaws.{left-unpacked, written-then-unpacked, unpacked-then-written}
+use Rattle.order.proofs.GapLaws.{gap-table}
+use Rattle.order.proofs.AgainLaws.{unpacked-is, written-then-unpacked, unpacked-then-written}
 
 pub demand-2 : Demand-2
 unfolding rowsLeft rowsGiven left
@@ -26,16 +27,17 @@ demand-2 = record {
   nothing-cut-off = λ bytes room e.
       let was = accepted-was bytes room e in
       nothing-cut-off (networkIn bytes) (accepted-sound bytes room was) (accepted-busy bytes room was);
+  gap-table = gap-table;
   load-refusal-9 = exact-9;
   load-refusal-10 = exact-10;
   no-load-refusal = exact-accepted;
   nothing-else = exact-three;
+  jitters-exist = jitters-exist;
+  one-list-of-flows = one-list-of-flows;
   unpack-after-write = unpack-after-write;
   written-then-unpacked = written-then-unpacked;
   write-after-unpack = write-after-unpack;
-  unpacked-then-written = λ bytes b n u delays systems vls streams ports hops a e w out c. (
-    left-unpacked bytes n u delays systems vls streams ports hops a e,
-    unpacked-then-written bytes b n (sym (a .answer) ∙ e) w out c,
-  );
+  unpacked-is = unpacked-is;
+  unpacked-then-written = unpacked-then-written;
   determined = determined;
 }

@@ -1,7 +1,9 @@
 pub mod AcceptedLaws
 pub mod SoundLaws
 pub mod RowLaws
+pub mod Exact
 pub mod CutOffLaws
+pub mod GapLaws
 pub mod AgainLaws
 pub mod Demand1
 pub mod Demand2

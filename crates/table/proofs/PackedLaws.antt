@@ -16,9 +16,9 @@ use Rattle.layout.specs.Rows.{converted, listed, rowFault}
 use Rattle.layout.proofs.LayoutLaws.{whole-bytes, size-is}
 use Rattle.layout.proofs.RoomLaws.{room-yes, row-there}
 use Rattle.table.specs.Sections.{headerRow, rows, from, row, recordOf, records}
-use Rattle.table.specs.Unpack.{needs, delaysOf}
+use Rattle.table.specs.Unpack.{Lengths, needs, delaysOf}
 use Rattle.table.specs.Write.{Lists, listFor, recordsIn, headerFor, packed}
-use Rattle.table.specs.RoundTrip.{unpacked, lengthsOf}
+use Rattle.table.specs.RoundTrip.{unpacked, RoomFor}
 use Rattle.table.proofs.AnswerLaws.{Writable, Sound, Holds}
 use Rattle.table.proofs.SectionLaws.{start, start-same, start-le, from-is, row-read, records-are}
 use Rattle.table.proofs.WriteLaws.{count, meant, storedRow, size-is-start, length-packed, Fits, row-packed, record-given}
@@ -122,13 +122,13 @@ module _ (ls : Lists) (w : Writable ls) (back : (s i : ℕ) → s < 6 → i < co
   unfolding needs count
   needs-are s h = omega (arith, w .full s h, ap (λ (n : ℕ). n * listed (suc s)) (rows-packed (suc s) h))
 
-  pub lists-hold : Holds (packed ls) (lengthsOf ls)
-  unfolding lengthsOf listFor
-  lists-hold = record {
-    delays = omega (arith, w .delays);
-    systems = needs-are 0 (omega arith);
-    vls = needs-are 1 (omega arith);
-    streams = needs-are 2 (omega arith);
-    ports = needs-are 3 (omega arith);
-    hops = needs-are 4 (omega arith);
+  pub lists-hold : (n : Lengths) → RoomFor ls n → Holds (packed ls) n
+  unfolding listFor
+  lists-hold n room = record {
+    delays = omega (arith, w .delays, room .delays);
+    systems = omega (arith, needs-are 0 (omega arith), room .systems);
+    vls = omega (arith, needs-are 1 (omega arith), room .vls);
+    streams = omega (arith, needs-are 2 (omega arith), room .streams);
+    ports = omega (arith, needs-are 3 (omega arith), room .ports);
+    hops = omega (arith, needs-are 4 (omega arith), room .hops);
   }

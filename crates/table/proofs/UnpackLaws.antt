@@ -55,7 +55,7 @@ module _ (bytes : List ℕ) where
   count-is zero h = refl
   count-is (suc s) h = div-eq-of-eq-mul-left (listed-some (suc s) h) (length-list s h)
 
-  length-delays : length (delaysOf bytes) ≡ 4
+  pub length-delays : length (delaysOf bytes) ≡ 4
   unfolding delaysOf
   length-delays =
       let vs = converted Reading (layout 0) (headerRow bytes) in

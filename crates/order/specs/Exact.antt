@@ -1,5 +1,7 @@
--- The order, demand 2: "Where refusals 1 to 8 do not apply, a load refusal is given exactly if no busy length within 01's limit exists." So 9 is given at the first VL that has a sub-link with streams and no busy length from 1 to 125,000,000; else 10 at the first port that, with jitters from the lower ports' figures, has none; else the table is accepted.
--- Each part is a statement here; proofs/Exact.antt proves it. Assumes nothing.
+-- The order, demand 2: "Where refusals 1 to 8 do not apply, a load refusal is given exactly if no busy length within 01's limit exists."
+-- So 9 is given at the first VL that has a sub-link with streams and no busy length from 1 to 125,000,000; else 10 at the first port that,
+-- with jitters from the lower ports' figures, has none; else the table is accepted. And there are such jitters, and they give a port but
+-- one list of flows. Each part is a statement here and a field of demand 2; proofs/Exact.antt proves it. Assumes nothing.
 use Prim.Native.Nat.{ℕ, _≤_, _<_}
 use mathlib.Core.List.{List}
 use mathlib.Core.Logic.{_↔_}
@@ -7,14 +9,13 @@ use mathlib.Core.Option.{none, some}
 use mathlib.Core.Path.{_≡_}
 use lib.ListN.{length}
 use Rattle.network.specs.Network.{Network, vlAt, streamAt, hopAt}
-use Rattle.network.specs.ReferenceFacts.{References}
 use Rattle.station.specs.declared.Flow.{Flow}
 use Rattle.station.specs.Station.{load}
 use Rattle.table.specs.Answers.{answer, accepted}
 use Rattle.table.specs.Read.{networkIn, readAnswer}
 use Rattle.rows.specs.Queues.{queueFlows}
 use Rattle.rows.specs.Ports.{portFlows, portFigure, rootJitter, childJitter, jitterOf}
 use Rattle.analysis.specs.Analysis.{answer7, answer8, analysisAnswer}
 
 -- "Where refusals 1 to 8 do not apply"
 pub record Passed (bytes : List ℕ) (room : ℕ) : Type 0 where
@@ -50,14 +51,17 @@ pub record EndlessPort (net : Network) (p : ℕ) : Type 0 where
   pub from-lower : FromLower net p figureAt jitterAt
   pub no-length : NoLength (portFlows net jitterAt p)
 
--- where 5 is not given there are such jitters, and they give a port but one list of flows: the one that its figure in the rows is of
+-- there are such jitters for every port: those of the rows
 abbrev pub Jitters-exist : Type 0
-Jitters-exist = (net : Network) → References net → (p : ℕ) → FromLower net p (portFigure net (jitterOf net)) (jitterOf net)
+Jitters-exist =
+    (bytes : List ℕ) (room : ℕ) → Passed bytes room → let net = networkIn bytes in
+    (p : ℕ) → FromLower net p (portFigure net (jitterOf net)) (jitterOf net)
 
+-- and they give a port but one list of flows: the one that its figure in the rows is of. So it does not matter which `EndlessPort` has.
 abbrev pub One-list-of-flows : Type 0
 One-list-of-flows =
-    (net : Network) → References net → (p : ℕ) (figureAt jitterAt : ℕ → ℕ) → FromLower net p figureAt jitterAt
-    → portFlows net jitterAt p ≡ portFlows net (jitterOf net) p
+    (bytes : List ℕ) (room : ℕ) → Passed bytes room → let net = networkIn bytes in
+    (p : ℕ) (figureAt jitterAt : ℕ → ℕ) → FromLower net p figureAt jitterAt → portFlows net jitterAt p ≡ portFlows net (jitterOf net) p
 
 -- the first of n rows of which something is so; none of them
 pub record FirstOf (Is : ℕ → Type 0) (n i : ℕ) : Type 0 where

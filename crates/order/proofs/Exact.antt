@@ -29,17 +29,20 @@ use Rattle.rows.specs.Queues.{queueFlows, queueLength}
 use Rattle.rows.specs.Ports.{portFlows, portLength, portFigure, childJitter, jitterOf, figureOf}
 use Rattle.rows.specs.Refusals.{endlessSubLink, endlessVl, endless, endlessPort}
 use Rattle.rows.proofs.PortLaws.{port-flows-same, port-figure-same, figures-of}
 use Rattle.analysis.specs.Analysis.{refusedAt, answer9, answer10, analysisAnswer}
-use Rattle.analysis.specs.Exact.{Passed, NoLength, EndlessQueue, EndlessPort, Jitters-exist, One-list-of-flows, FirstOf, NoneOf, FirstVl, NoVl, FirstPort, NoPort, Exact-9, Exact-10, Exact-accepted, OneOfThree, is-9, is-10, is-accepted, Exact-three}
+use Rattle.order.specs.Exact.{Passed, NoLength, EndlessQueue, FromLower, EndlessPort, Jitters-exist, One-list-of-flows, FirstOf, NoneOf, FirstVl, NoVl, FirstPort, NoPort, Exact-9, Exact-10, Exact-accepted, OneOfThree, is-9, is-10, is-accepted, Exact-three}
 use Rattle.analysis.specs.Judging.{judged}
 use Rattle.analysis.proofs.JudgeLaws.{analysis-judged}
 
 -- ---- flows without a busy length
 endless-flows : (fs : List Flow) → (not (isSome (busyLength fs)) ≡ true) ↔ NoLength fs
 unfolding limit
 endless-flows fs = (
-  λ e. record { fails = no-busy-length-is fs .0 (is-none-was (busyLength fs) (not-true (isSome (busyLength fs)) e)) },
-  λ n. ap not (none-is (busyLength fs) (no-busy-length-is fs .1 (n .fails))),
+  λ e. record {
+    fails = λ l low high.
+        no-busy-length-is fs .0 (is-none-was (busyLength fs) (not-true (isSome (busyLength fs)) e)) l low (omega arith);
+  },
+  λ n. ap not (none-is (busyLength fs) (no-busy-length-is fs .1 (λ l low high. n .fails l low (omega arith)))),
 )
 
 -- ---- the sub-links of a VL
@@ -84,16 +87,18 @@ module _ (net : Network) (v : ℕ) where
   )
 
 -- ---- the ports
-pub jitters-exist : Jitters-exist
+-- where no reference is bad there are jitters from the lower ports' figures
+jitters-of : (net : Network) → References net → (p : ℕ) → FromLower net p (portFigure net (jitterOf net)) (jitterOf net)
 unfolding figureOf
-jitters-exist net refs p =
+jitters-of net refs p =
     let keeps = figures-of net refs in
     record { figure-is = λ q b. refl; root-is = λ h l b e. keeps .root-is h l e; child-is = λ h g l b e. keeps .child-is h g l e }
 
--- by induction on the port number: a hop's jitter is of its parent's, which is on a lower port, and of that port's figure
-pub one-list-of-flows : One-list-of-flows
+-- and they are the hops' own, by induction on the port number: a hop's jitter is of its parent's, which is on a lower port, and of that port's figure
+flows-of : (net : Network) → References net → (p : ℕ) (figureAt jitterAt : ℕ → ℕ) → FromLower net p figureAt jitterAt
+    → portFlows net jitterAt p ≡ portFlows net (jitterOf net) p
 unfolding figureOf
-one-list-of-flows net refs p figureAt jitterAt lower = port-flows-same net jitterAt (jitterOf net) p (λ h l e. same (suc p) h l (omega arith) (omega arith))
+flows-of net refs p figureAt jitterAt lower = port-flows-same net jitterAt (jitterOf net) p (λ h l e. same (suc p) h l (omega arith) (omega arith))
   where
     same : (n h : ℕ) → h < length (net .hops) → hopAt net h .port < n → n ≤ suc p → jitterAt h ≡ jitterOf net h
     same zero h l k b = absurd (omega arith)
@@ -117,11 +122,11 @@ endless-port net refs p = (
   λ e. record {
     figureAt = portFigure net (jitterOf net);
     jitterAt = jitterOf net;
-    from-lower = jitters-exist net refs p;
+    from-lower = jitters-of net refs p;
     no-length = endless-flows (portFlows net (jitterOf net) p) .0 e;
   },
   λ q. endless-flows (portFlows net (jitterOf net) p) .1
-      (rw (one-list-of-flows net refs p (q .figureAt) (q .jitterAt) (q .from-lower)) at (q .no-length)),
+      (rw (flows-of net refs p (q .figureAt) (q .jitterAt) (q .from-lower)) at (q .no-length)),
 )
 
 -- ---- the first row that a test is true of is the first of which that is so which the test decides
@@ -203,6 +208,12 @@ module _ (bytes : List ℕ) (room : ℕ) (passed : Passed bytes room) where
   behind-8 : analysisAnswer bytes room ≡ last (endlessVl (networkIn bytes)) (endlessPort (networkIn bytes))
   unfolding judged firstGiven answer9 answer10
   behind-8 = analysis-judged bytes room (passed .read) ∙ rw (passed .none-7, passed .none-8)
+
+pub jitters-exist : Jitters-exist
+jitters-exist bytes room passed = jitters-of (networkIn bytes) (read-references bytes (passed .read))
+
+pub one-list-of-flows : One-list-of-flows
+one-list-of-flows bytes room passed = flows-of (networkIn bytes) (read-references bytes (passed .read))
 
 pub exact-9 : Exact-9
 exact-9 bytes room v passed =

@@ -1,0 +1,60 @@
+-- 01's table of gaps agrees with the network's gaps, which are milliseconds made ticks, and each divides the station's cycle: by computing for each code, and for a VL by its row of the table.
+-- Assumes nothing.
+use Prim.Native.Nat.{ℕ, _*_, _%_, _^_, _<_}
+use mathlib.Core.List.{List}
+use mathlib.Core.Option.{some}
+use mathlib.Core.Path.{_≡_, ap, _∙_}
+use native.Mathlib.Omega.{arith}
+use lib.Dec.{eqb, eqb→eq}
+use lib.ListN.{length, getD}
+use Rattle.base.proofs.Every.{at}
+use Rattle.frame.specs.Gap.{gapOf, msOf}
+use Rattle.frame.specs.Tick.{perMs}
+use Rattle.frame.proofs.GapLaws.{ms-given, gap-refused, gap-in-ms}
+use Rattle.layout.specs.declared.Way.the-variants.{Reading}
+use Rattle.layout.specs.Fields.{meaning, convert}
+use Rattle.layout.specs.Layout.{vl, layout}
+use Rattle.layout.specs.Rows.{converted}
+use Rattle.layout.proofs.FaultLaws.{faultless}
+use Rattle.layout.proofs.LayoutLaws.{fields-are, listed-is}
+use Rattle.network.specs.Network.{vlAt}
+use Rattle.station.specs.Searching.{cycle}
+use Rattle.table.specs.Answers.{accepted}
+use Rattle.table.specs.Sections.{rows, row}
+use Rattle.table.specs.RoundTrip.{unpacked}
+use Rattle.table.specs.Read.{networkIn, readAnswer}
+use Rattle.table.proofs.AnswerLaws.{Sound}
+use Rattle.table.proofs.UnpackLaws.{sound-rows}
+use Rattle.table.proofs.DecodedLaws.{vls-are, vl-gap}
+use Rattle.table.proofs.ReadLaws.{read-sound, count-read, number-read}
+use Rattle.order.specs.Demand2.{GapTable}
+
+evenly : (code : ℕ) → code < 8 → cycle % (perMs * 2 ^ code) ≡ 0
+unfolding cycle perMs
+evenly code h = eqb→eq (cycle % (perMs * 2 ^ code)) 0 (at (λ k. eqb (cycle % (perMs * 2 ^ k)) 0) 8 tt code h)
+
+-- what the code that is stored for VL v means, in milliseconds
+meant : (bytes : List ℕ) → Sound bytes → (v : ℕ) → v < rows bytes 2
+    → msOf (getD (row bytes 2 v) 1 0) ≡ some (getD (converted Reading (layout 2) (row bytes 2 v)) 1 0)
+unfolding layout vl convert meaning
+meant bytes sound v h = faultless Reading 2 (row bytes 2 v) (sound-rows bytes sound 2 v (omega arith) h) .fields 1 (omega (arith, fields-are 2))
+
+of-vl : (bytes : List ℕ) → readAnswer bytes ≡ accepted → (v : ℕ) → v < length (networkIn bytes .vls)
+    → gapOf (getD (row bytes 2 v) 1 0) ≡ some (vlAt (networkIn bytes) v .gap)
+unfolding networkIn
+of-vl bytes e v h =
+    let there = vls-are (unpacked bytes) in
+    let count = count-read bytes 1 (omega arith) in
+    let low : v < rows bytes 2 = omega arith in
+    let number = number-read bytes 1 v 1 (omega arith) low (omega (arith, listed-is 2)) in
+    let gap = vl-gap (unpacked bytes) v (omega arith) ∙ ap (λ (ms : ℕ). perMs * ms) number in
+    rw gap (gap-in-ms (getD (row bytes 2 v) 1 0) _ (meant bytes (read-sound bytes e) v low))
+
+pub gap-table : GapTable
+unfolding cycle
+gap-table = record {
+  in-ticks = λ code h. gap-in-ms code (2 ^ code) (ms-given code h);
+  no-other = gap-refused;
+  evenly = evenly;
+  of-vl = of-vl;
+}
