@@ -124,6 +124,7 @@ at-once = record {
     reach = cond (eqb t 0) (message-of 0 0 ∷ []) [];
     flight = λ h g. 0;
     enter = λ p. cond (eqb t 84) (record { frame = frame 0; hop = 0 } ∷ []) [];
+    turns = λ e. cond (eqb e 0) (record { name = 0; line = cond (eqb t 0) (frame 0 ∷ []) [] } ∷ []) [];
     receive = λ h g. 0;
   };
 }
@@ -166,6 +167,7 @@ over-two d = record {
     reach = cond (eqb t 2) (message-of 0 0 ∷ []) [];
     flight = λ h g. d + h;
     enter = λ p. cond (eqb t 87 && eqb p 0) (record { frame = frame 2; hop = 0 } ∷ []) (cond (eqb t 173 && eqb p 1) (record { frame = frame 2; hop = 1 } ∷ []) []);
+    turns = λ e. cond (eqb e 0) (record { name = 0; line = cond (eqb t 2) (frame 2 ∷ []) [] } ∷ []) [];
     receive = λ h g. 3;
   };
 }

@@ -1,4 +1,4 @@
--- A permitted run for any releases that keep the rule, any delays within their bounds, any first turns, and any order of what reaches the queues in a tick: what comes to a port comes in the order of the hops.
+-- A permitted run for any releases that keep the rule, any delays within their bounds, any first turns, and any order of what reaches the queues in a tick: what comes to a port comes in the order of the hops, and each link takes its VLs in turn.
 -- Assumes nothing.
 use Prim.Native.Nat.{ℕ, zero, suc}
 use mathlib.Core.List.{List, [], List·Permᴰ, Permᴰ·refl}
@@ -6,22 +6,35 @@ use mathlib.Core.Path.{_≡_, refl, sym, ap, subst}
 use Rattle.network.specs.Network.{Network}
 use Rattle.machine.specs.Pool.{landed}
 use Rattle.machine.specs.Messages.{Release, Message, Frame, messages}
-use Rattle.machine.specs.Machine.{State, Choice, Run, reaches, allSending, step, start, state}
+use Rattle.machine.specs.Machine.{State, Choice, Run, reaches, endJoined, allSending, step, start, state}
+use Rattle.machine.specs.Permitted.{InTurn}
 use Rattle.machine.specs.Demand3.{Planned, Runs}
 use Rattle.machine.proofs.Endless.{Endless, permitted}
 
 module _ (net : Network) (releases : ℕ → List Release) (send : ℕ → Message → ℕ) (flight receive : ℕ → ℕ → Frame → ℕ) (firstSub firstVl : ℕ → ℕ)
     (order : List Message → List Message) where
   abbrev pub plain : ℕ → Choice
-  plain t = record { send = send t; reach = []; flight = flight t; enter = λ p. []; receive = receive t }
+  plain t = record { send = send t; reach = []; flight = flight t; enter = λ p. []; turns = λ e. []; receive = receive t }
 
   -- what comes is what is due
-  abbrev pub full : ℕ → State → Choice
-  full t s = record {
+  abbrev pub coming : ℕ → State → Choice
+  coming t s = record {
     send = send t;
     reach = order (landed t (allSending net t (messages t 0 (releases t)) (plain t) s));
     flight = flight t;
     enter = λ p. reaches net t (plain t) s p;
+    turns = λ e. [];
+    receive = receive t;
+  }
+
+  -- and each link looks at its VLs as they stand
+  abbrev pub full : ℕ → State → Choice
+  full t s = record {
+    send = send t;
+    reach = coming t s .reach;
+    flight = flight t;
+    enter = coming t s .enter;
+    turns = λ e. endJoined net t (coming t s) s e .lanes;
     receive = receive t;
   }
 
@@ -76,11 +89,17 @@ module _ (net : Network) (releases : ℕ → List Release) (send : ℕ → Messa
         let due : State → List Message = λ s. landed t (allSending net t (messages t 0 (releases t)) (plain t) s) in
         subst (λ (s : State). List·Permᴰ (due s) (order (due (auto t)))) (sym (state-is t)) (orders (due (auto t)));
     enter = λ t p. subst (λ (s : State). List·Permᴰ (reaches net t (plain t) s p) (reaches net t (plain t) (auto t) p)) (sym (state-is t)) (Permᴰ·refl (reaches net t (plain t) (auto t) p));
+    turns = λ t e.
+        subst (λ (s : State). List·Permᴰ (endJoined net t (full t (auto t)) s e .lanes) (full t (auto t) .turns e)) (sym (state-is t)) (Permᴰ·refl (full t (auto t) .turns e));
     flight-least = λ t h f l k. plan .flight-least t h f l;
     flight-greatest = λ t h f l k. plan .flight-greatest t h f l;
     receive-least = λ t h f l k. plan .receive-least t h f;
     receive-greatest = λ t h f l k. plan .receive-greatest t h f;
   }
+
+  pub auto-in-turn : (n : ℕ) → InTurn net auto-run n
+  unfolding auto-run
+  auto-in-turn n t e h = ap (λ (s : State). endJoined net t (full t (auto t)) s e .lanes) (sym (state-is t))
 
 pub runs : (net : Network) → Runs net
 runs net releases send flight receive firstSub firstVl plan =
@@ -89,6 +108,7 @@ runs net releases send flight receive firstSub firstVl plan =
       run = auto-run net releases send flight receive firstSub firstVl order;
       permitted = permitted net (auto-run net releases send flight receive firstSub firstVl order)
           (auto-permitted net releases send flight receive firstSub firstVl order plan (λ l. Permᴰ·refl l));
+      in-turn = auto-in-turn net releases send flight receive firstSub firstVl order;
       releases-are = auto-releases net releases send flight receive firstSub firstVl order;
       first-sub-is = auto-first-sub net releases send flight receive firstSub firstVl order;
       first-vl-is = auto-first-vl net releases send flight receive firstSub firstVl order;

@@ -11,7 +11,7 @@ use Rattle.station.specs.Station.{most}
 use Rattle.machine.specs.Sum.{span}
 use Rattle.machine.specs.Pool.{landed}
 use Rattle.machine.specs.Messages.{Release, Message, Frame}
-use Rattle.machine.specs.Machine.{Run, released, delivered, setsOut, reaches, allSending, state}
+use Rattle.machine.specs.Machine.{Run, released, delivered, setsOut, reaches, endJoined, allSending, state}
 use Rattle.machine.specs.Permitted.{streamFlow, Sized, releasedBy, Permitted}
 use Rattle.machine.proofs.Told.{was-message}
 
@@ -27,6 +27,7 @@ module _ (net : Network) where
     pub send-greatest : (t : ℕ) (m : Message) → List·Memᴰ m (released r t) → r .choice t .send m ≤ net .sendGreatest
     pub reach : (t : ℕ) → List·Permᴰ (landed t (allSending net t (released r t) (r .choice t) (state net r t))) (r .choice t .reach)
     pub enter : (t p : ℕ) → List·Permᴰ (reaches net t (r .choice t) (state net r t) p) (r .choice t .enter p)
+    pub turns : (t e : ℕ) → List·Permᴰ (endJoined net t (r .choice t) (state net r t) e .lanes) (r .choice t .turns e)
     pub flight-least :
         (t h : ℕ) (f : Frame) → h < length (net .hops) → List·Memᴰ f (setsOut net t (r .choice t) (state net r t) h)
         → portAt net (hopAt net h .port) .delayLeast ≤ r .choice t .flight h f
@@ -46,6 +47,7 @@ module _ (net : Network) where
     send-greatest = λ t m h. e .send-greatest t m;
     reach = λ t h. e .reach t;
     enter = λ t p h. e .enter t p;
+    turns = λ t i h. e .turns t i;
     flight-least = λ t h f k. e .flight-least t h f;
     flight-greatest = λ t h f k. e .flight-greatest t h f;
     receive-least = λ t h f k. e .receive-least t h f;

@@ -2,7 +2,7 @@
 -- Assumes nothing.
 use Prim.Native.Nat.{ℕ, _+_, _*_, _≤_, _<_, max}
 use mathlib.Core.Bool.{cond, Bool}
-use mathlib.Core.List.{List, [], _∷_, List·Memᴰ, List·Memᴰ·head, List·Memᴰ·tail}
+use mathlib.Core.List.{List, [], _∷_, List·Memᴰ, List·Memᴰ·head, List·Memᴰ·tail, List·Permᴰ}
 use mathlib.Core.Path.{_≡_, refl, sym, ap, _∙_, subst, subst₂}
 use native.Mathlib.Nat.{le-refl, le-of-eq, le-trans, mul-le-mul-right, mul-pos, div-eq-of-lt}
 use native.Mathlib.Omega.{arith}
@@ -15,13 +15,13 @@ use Rattle.network.specs.Network.{Network, vlAt, systemAt}
 use Rattle.rows.specs.Links.{sendMost, sendLine, sendSum}
 use Rattle.network.specs.Views.{vlsOf}
 use Rattle.machine.specs.Sum.{span, count, weigh}
-use Rattle.machine.specs.Turn.{fromTurn}
+use Rattle.machine.specs.Turn.{Lane, add, fromTurn}
 use Rattle.machine.specs.Mux.{Mux}
 use Rattle.machine.specs.Messages.{Frame, endCost, ofVl}
 use Rattle.machine.specs.Machine.{Run, start}
 use Rattle.machine.specs.Sound.{Sound}
 use Rattle.machine.proofs.Cases.{eq→eqb, by-test}
-use Rattle.machine.proofs.Parts.{mux-out}
+use Rattle.machine.proofs.Parts.{mux, mux-out}
 use Rattle.machine.proofs.Sums.{span-mono, span-same, span-add, span-mul, span-zeros, upto, upto-same, upto-mono}
 use Rattle.machine.proofs.Turns.{Empty, Named}
 use Rattle.machine.proofs.Lanes.{added}
@@ -30,7 +30,7 @@ use Rattle.machine.proofs.Delay.{Delay}
 use Rattle.machine.proofs.Envelope.{any}
 use Rattle.machine.proofs.Select.{was-chosen, is-chosen, chosen-weigh, delay-same, is-passing, was-passing, weigh-one}
 use Rattle.machine.proofs.Start.{lanes-empty, lanes-named, lanes-added, turn-mem, turn-weigh}
-use Rattle.machine.proofs.Trace.{hand, sent, sent-is}
+use Rattle.machine.proofs.Trace.{hand, looks, end-is, sent, sent-is}
 use Rattle.machine.proofs.Endless.{Endless}
 use Rattle.machine.proofs.Windows.{Windows}
 use Rattle.machine.proofs.Queues.{Fact, hand-fact, hand-vl, hand-rate}
@@ -84,6 +84,13 @@ module _ (net : Network) (sound : Sound net) (r : Run) (per : Endless net r) (wi
   stamped : (t i : ℕ) (f : Frame) → List·Memᴰ f (new t i) → (f .born ≡ t) × (0 < endCost net e f)
   stamped t i f k = let w = fact t i f k in (w .0, mul-pos (omega (arith, w .1 .bytes-least, least-line-is)) (sound .system-speed e (sound .references .vl-system v hv)))
 
+  -- the order in which the link looks at its VLs: any order of what waits
+  abbrev looked : ℕ → List (Lane Frame)
+  looked = looks net r e
+
+  ordered : (t : ℕ) → List·Permᴰ (add (new t) (mux (endCost net e) s₀ new looked t .lanes)) (looked t)
+  ordered t = subst (λ (s : Mux Frame). List·Permᴰ (add (new t) (s .lanes)) (looked t)) (end-is net r e t) (per .turns t e)
+
   abbrev c : ℕ → ℕ
   c i = sendMost net i
 
@@ -106,20 +113,20 @@ module _ (net : Network) (sound : Sound net) (r : Run) (per : Endless net r) (wi
       let l : span (λ t. count any (new t i)) x d ≤ 1 = omega arith in
       le-trans w (le-trans (le-of-eq (span-mul (λ t. count any (new t i)) (c i) x d)) (le-trans (mul-le-mul-right (c i) l) (omega arith)))
 
-  brings-is : (t : ℕ) → brings (endCost net e) (λ f. f .born) s₀ empty₀ refl new stamped t ≡ weigh (λ i. weigh (endCost net e) (new t i)) ns
+  brings-is : (t : ℕ) → brings (endCost net e) (λ f. f .born) s₀ empty₀ refl new stamped looked ordered t ≡ weigh (λ i. weigh (endCost net e) (new t i)) ns
   unfolding brings
   brings-is t = lanes-added Frame (weigh (endCost net e)) (new t) turns ∙ turn-weigh (λ i. weigh (endCost net e) (new t i)) (r .firstVl e) ns
 
-  bound : (x d : ℕ) → d < window → span (brings (endCost net e) (λ f. f .born) s₀ empty₀ refl new stamped) x d ≤ sendSum net e
+  bound : (x d : ℕ) → d < window → span (brings (endCost net e) (λ f. f .born) s₀ empty₀ refl new stamped looked ordered) x d ≤ sendSum net e
   unfolding sendSum vlsOf
-  bound x d h = le-trans (le-of-eq (span-same (brings (endCost net e) (λ f. f .born) s₀ empty₀ refl new stamped) (λ t. weigh (λ i. weigh (endCost net e) (new t i)) ns) brings-is x d))
+  bound x d h = le-trans (le-of-eq (span-same (brings (endCost net e) (λ f. f .born) s₀ empty₀ refl new stamped looked ordered) (λ t. weigh (λ i. weigh (endCost net e) (new t i)) ns) brings-is x d))
       (span-sum (λ t i. weigh (endCost net e) (new t i)) c x d ns (λ i m. let w = was-passing (λ w. eqb (vlAt net w .system) e) (length (net .vls)) i m in one-each i (w .0) (eqb→eq (vlAt net i .system) e (w .1)) x d h))
 
-  back : (t : ℕ) (f : Frame) → List·Memᴰ f (mux-out (endCost net e) s₀ new t) → (f .born + endCost net e f ≤ t) × (t ≤ f .born + sendSum net e)
-  back = backward (endCost net e) (λ f. f .born) s₀ empty₀ refl new stamped window (sendSum net e) (omega arith) (omega arith) bound
+  back : (t : ℕ) (f : Frame) → List·Memᴰ f (mux-out (endCost net e) s₀ new looked t) → (f .born + endCost net e f ≤ t) × (t ≤ f .born + sendSum net e)
+  back = backward (endCost net e) (λ f. f .born) s₀ empty₀ refl new stamped looked ordered window (sendSum net e) (omega arith) (omega arith) bound
 
-  came : (t : ℕ) (f : Frame) → List·Memᴰ f (mux-out (endCost net e) s₀ new t) → List·Memᴰ f (new (f .born) (f .vl)) × (leastLine ≤ f .packet .bytes)
-  came = out-origin (endCost net e) (λ f. f .born) s₀ empty₀ refl new stamped (λ f. List·Memᴰ f (new (f .born) (f .vl)) × (leastLine ≤ f .packet .bytes))
+  came : (t : ℕ) (f : Frame) → List·Memᴰ f (mux-out (endCost net e) s₀ new looked t) → List·Memᴰ f (new (f .born) (f .vl)) × (leastLine ≤ f .packet .bytes)
+  came = out-origin (endCost net e) (λ f. f .born) s₀ empty₀ refl new stamped looked ordered (λ f. List·Memᴰ f (new (f .born) (f .vl)) × (leastLine ≤ f .packet .bytes))
       (λ t i f m. let w = fact t i f m in (subst₂ (λ (u j : ℕ). List·Memᴰ f (new u j)) (sym (w .0)) (sym (w .1 .vl)) m, w .1 .bytes-least))
 
   abbrev mine : Frame → Bool
@@ -129,12 +136,12 @@ module _ (net : Network) (sound : Sound net) (r : Run) (per : Endless net r) (wi
   unfolding sendLine
   least-cost f h = mul-le-mul-right (systemAt net e .perByte) h
 
-  weights : (w : Frame → ℕ) (t : ℕ) → upto (λ u. weigh w (ofVl v (mux-out (endCost net e) s₀ new u))) t ≤ upto (λ u. weigh w (new u v)) t
+  weights : (w : Frame → ℕ) (t : ℕ) → upto (λ u. weigh w (ofVl v (mux-out (endCost net e) s₀ new looked u))) t ≤ upto (λ u. weigh w (new u v)) t
   unfolding vlsOf
   weights w t =
       let q : Frame → ℕ = λ f. cond (mine f) (w f) 0 in
-      let a = upto-same (λ u. weigh w (ofVl v (mux-out (endCost net e) s₀ new u))) (λ u. weigh q (mux-out (endCost net e) s₀ new u)) (λ u. chosen-weigh mine (λ f. f) w (mux-out (endCost net e) s₀ new u)) t in
-      let b = weighed (endCost net e) (λ f. f .born) s₀ empty₀ refl new stamped q t in
+      let a = upto-same (λ u. weigh w (ofVl v (mux-out (endCost net e) s₀ new looked u))) (λ u. weigh q (mux-out (endCost net e) s₀ new looked u)) (λ u. chosen-weigh mine (λ f. f) w (mux-out (endCost net e) s₀ new looked u)) t in
+      let b = weighed (endCost net e) (λ f. f .born) s₀ empty₀ refl new stamped looked ordered q t in
       let d = upto-mono (λ u. added (weigh q) (new u) (s₀ .lanes)) (λ u. weigh w (new u v))
       (λ u. le-trans (le-of-eq (lanes-added Frame (weigh q) (new u) turns ∙ turn-weigh (λ i. weigh q (new u i)) (r .firstVl e) ns))
       (le-trans (weigh-one (λ i. weigh q (new u i)) v
@@ -147,18 +154,18 @@ module _ (net : Network) (sound : Sound net) (r : Run) (per : Endless net r) (wi
   pub end-delay : Delay (hand net r v) (sent net r v) (sendLine net v) (sendSum net e)
   end-delay = delay-same (λ t. refl) (λ t. sent-is net r v t) (record {
     forward = λ t f k.
-        let o = forward (endCost net e) (λ g. g .born) s₀ empty₀ refl new stamped window (sendSum net e) (omega arith) (omega arith) bound v named₀ t f k in
+        let o = forward (endCost net e) (λ g. g .born) s₀ empty₀ refl new stamped looked ordered window (sendSum net e) (omega arith) (omega arith) bound v named₀ t f k in
         let b = back (o .at) f (o .is) in
         let w = fact t v f k in
         record {
           at = o .at;
-          there = is-chosen mine (λ g. g) (mux-out (endCost net e) s₀ new (o .at)) f (o .is) (eq→eqb (f .vl) v (w .1 .vl));
+          there = is-chosen mine (λ g. g) (mux-out (endCost net e) s₀ new looked (o .at)) f (o .is) (eq→eqb (f .vl) v (w .1 .vl));
           least = omega (arith, b .0, w .0, least-cost f (w .1 .bytes-least));
           most = omega (arith, b .1, w .0);
         };
     backward = λ t f k.
-        let o = was-chosen mine (λ g. g) (mux-out (endCost net e) s₀ new t) f k in
-        let there′ : List·Memᴰ f (mux-out (endCost net e) s₀ new t) = subst (λ (g : Frame). List·Memᴰ g (mux-out (endCost net e) s₀ new t)) (o .is) (o .there) in
+        let o = was-chosen mine (λ g. g) (mux-out (endCost net e) s₀ new looked t) f k in
+        let there′ : List·Memᴰ f (mux-out (endCost net e) s₀ new looked t) = subst (λ (g : Frame). List·Memᴰ g (mux-out (endCost net e) s₀ new looked t)) (o .is) (o .there) in
         let vl′ : f .vl ≡ v = ap (λ (g : Frame). g .vl) (sym (o .is)) ∙ eqb→eq (o .from .vl) v (o .passes) in
         let w = came t f there′ in
         let b = back t f there′ in

@@ -1,6 +1,7 @@
 pub mod Cases
 pub mod Parts
 pub mod AFewTicks
+pub mod TwoVls
 pub mod Sums
 pub mod Lindley
 pub mod FifoLaws
@@ -8,6 +9,7 @@ pub mod Flows
 pub mod Spaced
 pub mod Turns
 pub mod Lanes
+pub mod Orders
 pub mod QueueSteps
 pub mod QueueLaws
 pub mod MuxSteps

@@ -1,7 +1,7 @@
--- What an end system's link does to what the VLs hand over: if each VL brings at most one frame in a span below `gap`, and one frame of each takes s ticks, at most `gap`, each frame is sent whole within s ticks.
+-- What an end system's link does to what the VLs hand over, whichever waiting VL it takes: if each VL brings at most one frame in a span below `gap`, and one frame of each takes s ticks, at most `gap`, each frame is sent whole within s ticks.
 -- Assumes nothing.
 use Prim.Native.Nat.{ℕ, zero, suc, _+_, _≤_, _<_, max}
-use mathlib.Core.List.{List, [], _∷_, List·Memᴰ, List·Memᴰ·head, List·Memᴰ·not-nil, List·Memᴰ·eq-of-singleton}
+use mathlib.Core.List.{List, [], _∷_, List·Memᴰ, List·Memᴰ·head, List·Memᴰ·not-nil, List·Memᴰ·eq-of-singleton, List·Permᴰ}
 use mathlib.Core.Logic.{_⊎_, inl, inr, ⊎-elim}
 use mathlib.Core.Option.{Option, none, some}
 use mathlib.Core.Path.{_≡_, refl, sym, ap, _∙_, subst}
@@ -15,8 +15,9 @@ use Rattle.machine.proofs.Cases.{by-leb, by-leb₂}
 use Rattle.machine.proofs.Parts.{mux, mux-out}
 use Rattle.machine.proofs.Sums.{upto, weigh-append}
 use Rattle.machine.proofs.Lindley.{busy}
-use Rattle.machine.proofs.Turns.{Empty, Within, within-add, not-within, took-or-left, Named, named-add, named-took, within-new, within-took, head-within, within-add-cases}
+use Rattle.machine.proofs.Turns.{Empty, Within, within-add, not-within, took-or-left, Named, named-add, named-took, within-new, within-took, head-within}
 use Rattle.machine.proofs.Lanes.{lane-sum, added, sum-add, added-add, sum-took}
+use Rattle.machine.proofs.Orders.{within-ordered, named-ordered, within-ordered-cases, sum-ordered, added-ordered}
 use Rattle.machine.proofs.MuxSteps.{free, Held, Inv, begun, inv-begin, inv-step, sum-begin, added-begin, no-lane-work}
 
 pub record Out {X : Type 0} (o : ℕ → List X) (y : X) : Type 0 where
@@ -25,20 +26,21 @@ pub record Out {X : Type 0} (o : ℕ → List X) (y : X) : Type 0 where
 
 module _ {X : Type 0} (cost born : X → ℕ) where
   module _ (s₀ : Mux X) (empty₀ : Empty (s₀ .lanes)) (idle₀ : s₀ .link ≡ none)
-      (new : ℕ → ℕ → List X) (stamped : (t i : ℕ) (x : X) → List·Memᴰ x (new t i) → (born x ≡ t) × (0 < cost x)) where
+      (new : ℕ → ℕ → List X) (stamped : (t i : ℕ) (x : X) → List·Memᴰ x (new t i) → (born x ≡ t) × (0 < cost x))
+      (order : ℕ → List (Lane X)) (ordered : (t : ℕ) → List·Permᴰ (add (new t) (mux cost s₀ new order t .lanes)) (order t)) where
     abbrev lanes : ℕ → List (Lane X)
-    lanes t = mux cost s₀ new t .lanes
+    lanes t = mux cost s₀ new order t .lanes
 
     abbrev link : ℕ → Option (Sent X)
-    link t = mux cost s₀ new t .link
+    link t = mux cost s₀ new order t .link
 
     inv : (t : ℕ) → Inv cost born t (lanes (suc t)) (link (suc t))
     unfolding mux
-    inv zero = subst (λ (k : Option (Sent X)). Inv cost born zero (begin cost zero (add (new zero) (s₀ .lanes)) k .lanes) (begin cost zero (add (new zero) (s₀ .lanes)) k .link))
+    inv zero = subst (λ (k : Option (Sent X)). Inv cost born zero (begin cost zero (order zero) k .lanes) (begin cost zero (order zero) k .link))
         (sym (ap (still zero) idle₀))
-        (inv-begin cost born zero (add (new zero) (s₀ .lanes))
-        (λ x w. ⊎-elim (λ u. absurd (not-within x (s₀ .lanes) empty₀ u)) (λ u. (omega (arith, stamped zero (u .0) x (u .1) .0), stamped zero (u .0) x (u .1) .1)) (within-add-cases x (new zero) (s₀ .lanes) w)))
-    inv (suc t) = inv-step cost born t (lanes (suc t)) (link (suc t)) (new (suc t)) (stamped (suc t)) (inv t)
+        (inv-begin cost born zero (order zero)
+        (λ x w. ⊎-elim (λ u. absurd (not-within x (s₀ .lanes) empty₀ u)) (λ u. (omega (arith, stamped zero (u .0) x (u .1) .0), stamped zero (u .0) x (u .1) .1)) (within-ordered-cases x (new zero) (s₀ .lanes) (ordered zero) w)))
+    inv (suc t) = inv-step cost born t (lanes (suc t)) (link (suc t)) (new (suc t)) (order (suc t)) (ordered (suc t)) (stamped (suc t)) (inv t)
 
     -- the work that tick t brings, and when all that is there after it is sent
     unfoldable pub brings : ℕ → ℕ
@@ -50,12 +52,12 @@ module _ {X : Type 0} (cost born : X → ℕ) where
     added-same : (g : List X → ℕ) (f : ℕ → List X) (t : ℕ) → added g f (lanes t) ≡ added g f (s₀ .lanes)
     unfolding mux
     added-same g f zero = refl
-    added-same g f (suc t) = added-begin cost born g f t (add (new t) (lanes t)) (still t (link t)) ∙ added-add g f (new t) (lanes t) ∙ added-same g f t
+    added-same g f (suc t) = added-begin cost born g f t (order t) (still t (link t)) ∙ sym (added-ordered g f (ordered t)) ∙ added-add g f (new t) (lanes t) ∙ added-same g f t
 
     e-is : (t : ℕ) → e t ≡ free cost born t (still t (link t)) + (lane-sum (weigh cost) (lanes t) + brings t)
     unfolding e mux brings
-    e-is t = sum-begin cost born t (add (new t) (lanes t)) (still t (link t))
-        ∙ ap (λ (n : ℕ). free cost born t (still t (link t)) + n) (sum-add (weigh cost) (weigh-append cost) (new t) (lanes t)
+    e-is t = sum-begin cost born t (order t) (still t (link t))
+        ∙ ap (λ (n : ℕ). free cost born t (still t (link t)) + n) (sym (sum-ordered (weigh cost) (ordered t)) ∙ sum-add (weigh cost) (weigh-append cost) (new t) (lanes t)
         ∙ ap (λ (n : ℕ). lane-sum (weigh cost) (lanes t) + n) (added-same (weigh cost) (new t) t))
 
     sum-empty : (ls : List (Lane X)) → Empty ls → lane-sum (weigh cost) ls ≡ zero
@@ -113,8 +115,8 @@ module _ {X : Type 0} (cost born : X → ℕ) where
     unfolding mux
     came t y h = ⊎-elim
         (λ g. inl g)
-        (λ g. inr (⊎-elim (λ w. inl w) (λ u. inr u) (within-add-cases y (new t) (lanes t) g)))
-        (before t y (add (new t) (lanes t)) (still t (link t)) h)
+        (λ g. inr (⊎-elim (λ w. inl w) (λ u. inr u) (within-ordered-cases y (new t) (lanes t) (ordered t) g)))
+        (before t y (order t) (still t (link t)) h)
 
     since-keep : (t x : ℕ) → x ≤ t → Since t x → Since (suc t) x
     unfolding Since
@@ -156,7 +158,7 @@ module _ {X : Type 0} (cost born : X → ℕ) where
     out-held t y none m = List·Memᴰ·not-nil m
     out-held t y (some s) m = by-leb (s .ends) t (λ (o : List X). List·Memᴰ y o → s .job ≡ y) (λ b n. sym (List·Memᴰ·eq-of-singleton n)) (λ b n. absurd (List·Memᴰ·not-nil n)) m
 
-    pub out-origin : (O : X → Type 0) → ((t i : ℕ) (y : X) → List·Memᴰ y (new t i) → O y) → (t : ℕ) (y : X) → List·Memᴰ y (mux-out cost s₀ new t) → O y
+    pub out-origin : (O : X → Type 0) → ((t i : ℕ) (y : X) → List·Memᴰ y (new t i) → O y) → (t : ℕ) (y : X) → List·Memᴰ y (mux-out cost s₀ new order t) → O y
     unfolding mux-out
     out-origin O h t y m = origin O h t y (inl (out-held t y (link t) m))
 
@@ -177,7 +179,7 @@ module _ {X : Type 0} (cost born : X → ℕ) where
           (λ b n. absurd (List·Memᴰ·not-nil n)) m
 
       -- what is sent whole in tick t was handed over from its own cost to s ticks ago
-      pub backward : (t : ℕ) (y : X) → List·Memᴰ y (mux-out cost s₀ new t) → (born y + cost y ≤ t) × (t ≤ born y + s)
+      pub backward : (t : ℕ) (y : X) → List·Memᴰ y (mux-out cost s₀ new order t) → (born y + cost y ≤ t) × (t ≤ born y + s)
       unfolding mux-out mux e
       backward zero y m = absurd (List·Memᴰ·not-nil (subst (λ (k : Option (Sent X)). List·Memᴰ y (ended zero k)) idle₀ m))
       backward (suc t) y m =
@@ -215,12 +217,16 @@ module _ {X : Type 0} (cost born : X → ℕ) where
       busy-later t y ls none i (inr w) = absurd (i y w)
       busy-later t y ls (some s) i h = omega (arith, i .0)
 
-      goes : (n t : ℕ) (y : X) → born y + s ≤ t + n → Held cost born y (link (suc t)) ⊎ Within y (lanes (suc t)) → Out (mux-out cost s₀ new) y
+      -- in any order
+      looked : (t : ℕ) (y : X) → Held cost born y (still t (link t)) ⊎ Within y (add (new t) (lanes t)) → Held cost born y (still t (link t)) ⊎ Within y (order t)
+      looked t y h = ⊎-elim (λ g. inl g) (λ w. inr (within-ordered y (ordered t) w)) h
+
+      goes : (n t : ℕ) (y : X) → born y + s ≤ t + n → Held cost born y (link (suc t)) ⊎ Within y (lanes (suc t)) → Out (mux-out cost s₀ new order) y
       unfolding mux e mux-out
       goes zero t y b h = absurd (omega (arith, in-time t y h, busy-later t y (lanes (suc t)) (link (suc t)) (inv t) h))
       goes (suc n) t y b h = ⊎-elim
           (λ m. record { at = suc t; is = m })
-          (λ g. let r = goes n (suc t) y (omega arith) (after (suc t) y (add (new (suc t)) (lanes (suc t))) (still (suc t) (link (suc t))) g) in record { at = r .at; is = r .is })
+          (λ g. let r = goes n (suc t) y (omega arith) (after (suc t) y (order (suc t)) (still (suc t) (link (suc t))) (looked (suc t) y g)) in record { at = r .at; is = r .is })
           (stays (suc t) y (lanes (suc t)) (link (suc t)) (new (suc t)) h)
 
       named-begin : (i t : ℕ) (ls : List (Lane X)) (k : Option (Sent X)) → Named i ls → Named i (begin cost t ls k .lanes)
@@ -233,12 +239,12 @@ module _ {X : Type 0} (cost born : X → ℕ) where
       named : (i : ℕ) → Named i (s₀ .lanes) → (t : ℕ) → Named i (lanes t)
       unfolding mux
       named i h zero = h
-      named i h (suc t) = named-begin i t (add (new t) (lanes t)) (still t (link t)) (named-add i (new t) (lanes t) (named i h t))
+      named i h (suc t) = named-begin i t (order t) (still t (link t)) (named-ordered i (ordered t) (named-add i (new t) (lanes t) (named i h t)))
 
-      pub forward : (i : ℕ) → Named i (s₀ .lanes) → (t : ℕ) (y : X) → List·Memᴰ y (new t i) → Out (mux-out cost s₀ new) y
+      pub forward : (i : ℕ) → Named i (s₀ .lanes) → (t : ℕ) (y : X) → List·Memᴰ y (new t i) → Out (mux-out cost s₀ new order) y
       unfolding mux
       forward i h t y m = goes (born y + s) t y (omega arith)
-          (after t y (add (new t) (lanes t)) (still t (link t)) (inr (within-new i (new t) y (lanes t) (named i h t) m)))
+          (after t y (order t) (still t (link t)) (inr (within-ordered y (ordered t) (within-new i (new t) y (lanes t) (named i h t) m))))
 
     -- ---- nothing is made or lost, by any weight
     module _ (w : X → ℕ) where
@@ -265,17 +271,18 @@ module _ {X : Type 0} (cost born : X → ℕ) where
       sum-none [] h = refl
       sum-none (l ∷ ls) h = omega (arith, sum-none ls (h .1), ap (weigh w) (h .0))
 
-      kept : (t : ℕ) → upto (λ u. weigh w (mux-out cost s₀ new u)) t + (held (link t) + lane-sum (weigh w) (lanes t)) ≡ upto (λ u. added (weigh w) (new u) (s₀ .lanes)) t
+      kept : (t : ℕ) → upto (λ u. weigh w (mux-out cost s₀ new order u)) t + (held (link t) + lane-sum (weigh w) (lanes t)) ≡ upto (λ u. added (weigh w) (new u) (s₀ .lanes)) t
       unfolding upto mux mux-out held
       kept zero = omega (arith, sum-none (s₀ .lanes) empty₀, ap held idle₀)
       kept (suc t) = omega (
         arith,
         kept t,
-        held-begin t (add (new t) (lanes t)) (still t (link t)),
+        held-begin t (order t) (still t (link t)),
+        sum-ordered (weigh w) (ordered t),
         held-ends t (link t),
         sum-add (weigh w) (weigh-append w) (new t) (lanes t),
         added-same (weigh w) (new t) t,
       )
 
-      pub weighed : (t : ℕ) → upto (λ u. weigh w (mux-out cost s₀ new u)) t ≤ upto (λ u. added (weigh w) (new u) (s₀ .lanes)) t
+      pub weighed : (t : ℕ) → upto (λ u. weigh w (mux-out cost s₀ new order u)) t ≤ upto (λ u. added (weigh w) (new u) (s₀ .lanes)) t
       weighed t = omega (arith, kept t)

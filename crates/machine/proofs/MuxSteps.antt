@@ -1,7 +1,7 @@
 -- What a start does to an end system: an idle link takes the packet of the next VL that has one, or nobody waits.
 -- Assumes nothing.
 use Prim.Native.Nat.{ℕ, zero, suc, _+_, _≤_, _<_}
-use mathlib.Core.List.{List, [], _∷_, List·Memᴰ, List·Memᴰ·head, List·Memᴰ·not-nil}
+use mathlib.Core.List.{List, [], _∷_, List·Memᴰ, List·Memᴰ·head, List·Memᴰ·not-nil, List·Permᴰ}
 use mathlib.Core.Logic.{_⊎_, inl, inr, ⊎-elim}
 use mathlib.Core.Option.{Option, none, some}
 use mathlib.Core.Path.{_≡_, refl, sym, ap, _∙_, subst}
@@ -13,8 +13,9 @@ use Rattle.machine.specs.Mux.{Mux, launch, begin}
 use Rattle.machine.specs.Fifo.{Sent, still}
 use Rattle.machine.proofs.Cases.{by-leb}
 use Rattle.machine.proofs.Sums.{weigh-append}
-use Rattle.machine.proofs.Turns.{Empty, Took, turn, Within, not-within, within-took, head-within, within-add-cases}
+use Rattle.machine.proofs.Turns.{Empty, Took, turn, Within, not-within, within-took, head-within}
 use Rattle.machine.proofs.Lanes.{lane-sum, added, added-took, sum-took}
+use Rattle.machine.proofs.Orders.{within-ordered-cases}
 
 module _ {X : Type 0} (cost born : X → ℕ) where
   unfoldable pub free : ℕ → Option (Sent X) → ℕ
@@ -56,16 +57,18 @@ module _ {X : Type 0} (cost born : X → ℕ) where
       (λ q. subst (λ (r : Mux X). Inv t (r .lanes) (r .link)) (sym (q .is)) (λ x w. not-within x ls (q .empty) w))
       (begun t ls)
 
-  pub inv-step : (t : ℕ) (ls : List (Lane X)) (k : Option (Sent X)) (f : ℕ → List X) → ((i : ℕ) (x : X) → List·Memᴰ x (f i) → (born x ≡ suc t) × (0 < cost x))
-      → Inv t ls k → Inv (suc t) (begin cost (suc t) (add f ls) (still (suc t) k) .lanes) (begin cost (suc t) (add f ls) (still (suc t) k) .link)
+  -- a tick that brings f, after which the link looks at the lanes in any order
+  pub inv-step : (t : ℕ) (ls : List (Lane X)) (k : Option (Sent X)) (f : ℕ → List X) (order : List (Lane X)) → List·Permᴰ (add f ls) order
+      → ((i : ℕ) (x : X) → List·Memᴰ x (f i) → (born x ≡ suc t) × (0 < cost x))
+      → Inv t ls k → Inv (suc t) (begin cost (suc t) order (still (suc t) k) .lanes) (begin cost (suc t) order (still (suc t) k) .link)
   unfolding Inv
-  inv-step t ls none f h i = inv-begin (suc t) (add f ls)
-      (λ x w. ⊎-elim (λ u. absurd (i x u)) (λ u. (omega (arith, h (u .0) x (u .1) .0), h (u .0) x (u .1) .1)) (within-add-cases x f ls w))
-  inv-step t ls (some s) f h i =
-      let old : (x : X) → Within x (add f ls) → (born x ≤ suc t) × (0 < cost x) =
-      λ x w. ⊎-elim (λ u. (omega (arith, i .2 x u .0), i .2 x u .1)) (λ u. (omega (arith, h (u .0) x (u .1) .0), h (u .0) x (u .1) .1)) (within-add-cases x f ls w) in
-      by-leb (s .ends) (suc t) (λ (k : Option (Sent X)). Inv (suc t) (begin cost (suc t) (add f ls) k .lanes) (begin cost (suc t) (add f ls) k .link))
-      (λ m. inv-begin (suc t) (add f ls) old)
+  inv-step t ls none f order o h i = inv-begin (suc t) order
+      (λ x w. ⊎-elim (λ u. absurd (i x u)) (λ u. (omega (arith, h (u .0) x (u .1) .0), h (u .0) x (u .1) .1)) (within-ordered-cases x f ls o w))
+  inv-step t ls (some s) f order o h i =
+      let old : (x : X) → Within x order → (born x ≤ suc t) × (0 < cost x) =
+      λ x w. ⊎-elim (λ u. (omega (arith, i .2 x u .0), i .2 x u .1)) (λ u. (omega (arith, h (u .0) x (u .1) .0), h (u .0) x (u .1) .1)) (within-ordered-cases x f ls o w) in
+      by-leb (s .ends) (suc t) (λ (k : Option (Sent X)). Inv (suc t) (begin cost (suc t) order k .lanes) (begin cost (suc t) order k .link))
+      (λ m. inv-begin (suc t) order old)
       (λ m. (m, i .1, old))
 
   pub sum-begin : (t : ℕ) (ls : List (Lane X)) (k : Option (Sent X)) → free t (begin cost t ls k .link) + lane-sum (weigh cost) (begin cost t ls k .lanes) ≡ free t k + lane-sum (weigh cost) ls

@@ -11,9 +11,9 @@ use native.Mathlib.Omega.{arith}
 use lib.Dec.{leb}
 use lib.ListN.{length}
 use Rattle.machine.specs.Turn.{Lane, add, serve}
-use Rattle.machine.specs.Queue.{Queue, Handed, hand, tick}
+use Rattle.machine.specs.Queue.{Queue, Handed, hand}
 use Rattle.machine.proofs.Cases.{by-leb}
-use Rattle.machine.proofs.Parts.{queue, handed}
+use Rattle.machine.proofs.Parts.{queue-tick, queue, handed}
 
 module _ {X : Type 0} where
   -- the list is empty, or its last one is x
@@ -55,7 +55,7 @@ module _ {X : Type 0} where
   serves gap t nx [] = keeps refl refl
   serves gap t nx (y ∷ l) = gives y l refl refl refl
 
-  pub stepped : (gap t : ℕ) (f : ℕ → List X) (s : Queue X) (l : List X) → s .lanes ≡ lane l ∷ [] → Stepped (l ++ f 0) (tick gap t f s)
+  pub stepped : (gap t : ℕ) (f : ℕ → List X) (s : Queue X) (l : List X) → s .lanes ≡ lane l ∷ [] → Stepped (l ++ f 0) (queue-tick gap t f s)
   stepped gap t f s l e = go (s .lanes) e
     where
       go : (ls : List (Lane X)) → ls ≡ lane l ∷ []
@@ -74,7 +74,7 @@ module _ {X : Type 0} where
     at zero = record { line = []; is = one }
     at (suc t) = next (at t .line) (stepped gap t (new t) (queue gap s₀ new t) (at t .line) (at t .is))
       where
-        next : (l : List X) → Stepped (l ++ new t 0) (tick gap t (new t) (queue gap s₀ new t)) → At (suc t)
+        next : (l : List X) → Stepped (l ++ new t 0) (queue-tick gap t (new t) (queue gap s₀ new t)) → At (suc t)
         next l (keeps g e) = record { line = l ++ new t 0; is = e }
         next l (gives y k m g e) = record { line = k; is = e }
 
@@ -91,7 +91,7 @@ module _ {X : Type 0} where
       here : (t : ℕ) → n ≡ t → Tail t
       here t e = subst Tail e (record { line = at n .line; is = at n .is; ends = ends-over x (at n .line) (new n 0) some-come by-x })
 
-      step : (t : ℕ) → n ≤ t → (w : Tail t) → Stepped (w .line ++ new t 0) (tick gap t (new t) (queue gap s₀ new t)) → Tail (suc t)
+      step : (t : ℕ) → n ≤ t → (w : Tail t) → Stepped (w .line ++ new t 0) (queue-tick gap t (new t) (queue gap s₀ new t)) → Tail (suc t)
       unfolding queue
       step t h w (keeps g e) = after (suc t) (w .line ++ new t 0) (omega arith) e (w .ends)
       step t h w (gives y l m g e) = after (suc t) l (omega arith) e (ends-less x y l (subst (λ (z : List X). Ends-in x z) m (w .ends)))
@@ -110,7 +110,7 @@ module _ {X : Type 0} where
           go : Tail t → y ≡ x
           go w = next (stepped gap t (new t) (queue gap s₀ new t) (w .line) (w .is))
             where
-              next : Stepped (w .line ++ new t 0) (tick gap t (new t) (queue gap s₀ new t)) → y ≡ x
+              next : Stepped (w .line ++ new t 0) (queue-tick gap t (new t) (queue gap s₀ new t)) → y ≡ x
               next (keeps g k) = absurd (mathlib.Core.Option.Option·none-ne-some y (sym g ∙ e))
               next (gives u l m g k) =
                   let e′ : some u ≡ some y = sym g ∙ e in

@@ -10,8 +10,8 @@ use native.Mathlib.Nat.{le-refl, add-zero, mul-le-mul-right, le-of-eq}
 use native.Mathlib.Omega.{arith}
 use lib.ListN.{length, length-append}
 use Rattle.machine.specs.Turn.{Lane, add, serve}
-use Rattle.machine.specs.Queue.{Queue, Handed, tick}
-use Rattle.machine.proofs.Parts.{queue, handed}
+use Rattle.machine.specs.Queue.{Queue, Handed}
+use Rattle.machine.proofs.Parts.{queue-tick, queue, handed}
 use Rattle.machine.proofs.Turns.{Empty, Each, each-append, each-right, each-map, each-empty, each-add, length-add, Within, Named, named-add, within-add, within-new, took-or-left, named-took}
 use Rattle.machine.proofs.QueueSteps.{Gave, Kept, cases}
 
@@ -193,10 +193,10 @@ module _ {X : Type 0} (n gap : ℕ) (by from : X → ℕ) where
 
       -- ---- the run: all sub-links are empty at first
       module _ (pos : 0 < gap) (s₀ : Queue X) (size₀ : length (s₀ .lanes) ≡ n) (empty₀ : Empty (s₀ .lanes)) (next₀ : s₀ .next ≡ zero) where
-        after : (t : ℕ) (s : Queue X) → length (s .lanes) ≡ n → Mid t s → After t (tick gap t (new t) s)
-        after t s z m = ⊎-elim (λ g. gave t s z m (tick gap t (new t) s) g pos) (λ k. kept t s z m (tick gap t (new t) s) k) (cases gap t (new t) s)
+        after : (t : ℕ) (s : Queue X) → length (s .lanes) ≡ n → Mid t s → After t (queue-tick gap t (new t) s)
+        after t s z m = ⊎-elim (λ g. gave t s z m (queue-tick gap t (new t) s) g pos) (λ k. kept t s z m (queue-tick gap t (new t) s) k) (cases gap t (new t) s)
 
-        run : (t : ℕ) → After t (tick gap t (new t) (queue gap s₀ new t))
+        run : (t : ℕ) → After t (queue-tick gap t (new t) (queue gap s₀ new t))
         unfolding queue
         run zero = after zero s₀ size₀ (mid-idle zero s₀ (λ i. omega (arith, v-first i)) (omega arith) empty₀)
         run (suc t) = let o = run t .ok in after (suc t) (queue gap s₀ new (suc t)) (o .size) (mid-next t (queue gap s₀ new (suc t)) o)
@@ -208,7 +208,7 @@ module _ {X : Type 0} (n gap : ℕ) (by from : X → ℕ) where
         -- no packet is handed over less than one gap before its virtual end, nor before its least tick
         pub hand-bounds : (t : ℕ) (x : X) → handed gap s₀ new t ≡ some x → (t + gap ≤ by x) × (from x ≤ t)
         unfolding handed
-        hand-bounds t x e = fair-at t x (tick gap t (new t) (queue gap s₀ new t) .got) e (run t .fair)
+        hand-bounds t x e = fair-at t x (queue-tick gap t (new t) (queue gap s₀ new t) .got) e (run t .fair)
 
         -- ---- forward: each packet that comes is handed over
         due-mem : (l : List X) (e m : ℕ) (x : X) → Due e m l → List·Memᴰ x l → m + nb ≤ by x + e
@@ -223,7 +223,7 @@ module _ {X : Type 0} (n gap : ℕ) (by from : X → ℕ) where
         within-due t m x (l ∷ ls) h k (inr w) = within-due t m x ls (h .1) (omega arith) w
 
         -- a tick hands x over, or keeps it; and keeps the lanes' names
-        stays : (t : ℕ) (s : Queue X) (x : X) → Within x (add (new t) (s .lanes)) → (tick gap t (new t) s .got ≡ some x) ⊎ Within x (tick gap t (new t) s .queue .lanes)
+        stays : (t : ℕ) (s : Queue X) (x : X) → Within x (add (new t) (s .lanes)) → (queue-tick gap t (new t) s .got ≡ some x) ⊎ Within x (queue-tick gap t (new t) s .queue .lanes)
         stays t s x w = ⊎-elim
             (λ g. ⊎-elim
             (λ e. inl (ap (λ (h : Handed X). h .got) (g .is) ∙ sym (g .took .got) ∙ e))
@@ -232,7 +232,7 @@ module _ {X : Type 0} (n gap : ℕ) (by from : X → ℕ) where
             (λ k. inr (subst (λ (h : Handed X). Within x (h .queue .lanes)) (sym (k .is)) w))
             (cases gap t (new t) s)
 
-        names : (i t : ℕ) (s : Queue X) → Named i (s .lanes) → Named i (tick gap t (new t) s .queue .lanes)
+        names : (i t : ℕ) (s : Queue X) → Named i (s .lanes) → Named i (queue-tick gap t (new t) s .queue .lanes)
         names i t s w =
             let w′ = named-add i (new t) (s .lanes) w in
             ⊎-elim

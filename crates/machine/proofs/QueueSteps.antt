@@ -9,9 +9,9 @@ use native.Mathlib.Omega.{arith}
 use lib.ListN.{length, length-append}
 use Rattle.machine.specs.Sum.{span}
 use Rattle.machine.specs.Turn.{Lane, add, serve}
-use Rattle.machine.specs.Queue.{Queue, Handed, hand, tick}
+use Rattle.machine.specs.Queue.{Queue, Handed, hand}
 use Rattle.machine.proofs.Cases.{by-leb}
-use Rattle.machine.proofs.Parts.{queue, handed}
+use Rattle.machine.proofs.Parts.{queue-tick, queue, handed}
 use Rattle.machine.proofs.Sums.{upto}
 use Rattle.machine.proofs.Spaced.{Spaced, spaced-count}
 use Rattle.machine.proofs.Turns.{Within, Empty, Took, turn, within-took, head-within, within-add-cases, not-within}
@@ -28,7 +28,7 @@ module _ {X : Type 0} where
     pub why : (t < s .next) ⊎ Empty (add new (s .lanes))
     pub is : h ≡ record { got = none; queue = record { lanes = add new (s .lanes); next = s .next } }
 
-  pub cases : (gap t : ℕ) (new : ℕ → List X) (s : Queue X) → Gave gap t new s (tick gap t new s) ⊎ Kept t new s (tick gap t new s)
+  pub cases : (gap t : ℕ) (new : ℕ → List X) (s : Queue X) → Gave gap t new s (queue-tick gap t new s) ⊎ Kept t new s (queue-tick gap t new s)
   cases gap t new s =
       by-leb (s .next) t (λ (h : Handed X). Gave gap t new s h ⊎ Kept t new s h)
       (λ r. ⊎-elim

@@ -32,7 +32,7 @@ use Rattle.machine.proofs.Endless.{arrival, Endless, permitted}
 use Rattle.machine.proofs.Windows.{queueStation, Windows}
 use Rattle.machine.proofs.Arrivals.{test, reach-at, reach-delay}
 use Rattle.machine.proofs.Queues.{bounds}
-use Rattle.machine.proofs.Auto.{auto-first-sub, auto-ordered}
+use Rattle.machine.proofs.Auto.{auto-first-sub, auto-ordered, auto-in-turn}
 use Rattle.machine.proofs.OneLane.{Ends-in, ends-over, ends-one, lane, last-out}
 use Rattle.machine.proofs.Fill.{spread, n, rel, fill, send, flight, receive, arrives, last-released}
 use Rattle.machine.proofs.Worth.{Aim, late, r, per, rels-are, send-is, last, reach-time, came, P, worth-gap, listed, P-pos, s₀, c, conserved, goal, few, far, all-gone}
@@ -255,6 +255,7 @@ module _ (net : Network) (sound : Sound net) (win : Windows net) (aim : Aim net)
       record {
         run = run;
         permitted = permitted net run ok;
+        in-turn = auto-in-turn net (fill net sound v s₁ d) (send net sound v s₁ d) (flight net sound v s₁ d) (receive net sound v s₁ d) (λ w. 0) (λ e. 0) (behind mine);
         message = victim;
         stream = victim-stream;
         came = end;

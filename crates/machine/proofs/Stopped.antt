@@ -17,7 +17,7 @@ use Rattle.station.specs.Station.{most}
 use Rattle.machine.specs.Sum.{span, count}
 use Rattle.machine.specs.Pool.{landed}
 use Rattle.machine.specs.Messages.{Release, Message, Packet, Frame, messages, vlOf}
-use Rattle.machine.specs.Machine.{State, Choice, Run, released, delivered, setsOut, reaches, complete, hands, allSending, step, start, state}
+use Rattle.machine.specs.Machine.{State, Choice, Run, released, delivered, setsOut, reaches, endJoined, complete, hands, allSending, step, start, state}
 use Rattle.machine.specs.Permitted.{streamFlow, releasedBy, PermittedBelow}
 use Rattle.machine.specs.Sound.{Sound}
 use Rattle.machine.specs.Demand3.{Complete, Hands}
@@ -126,6 +126,8 @@ module _ (net : Network) (sound : Sound net) (r : Run) (n : ℕ) (per : Permitte
     reach = each (λ t ms c s. List·Permᴰ (landed t (allSending net t ms c s)) (c .reach)) (λ t h. per .reach t h)
         (λ t h. Permᴰ·refl (landed t (allSending net t [] (rest t (ext t)) (ext t))));
     enter = λ t p. each (λ t ms c s. List·Permᴰ (reaches net t c s p) (c .enter p)) (λ t h. per .enter t p h) (λ t h. Permᴰ·refl (reaches net t (rest t (ext t)) (ext t) p)) t;
+    turns = λ t e. each (λ t ms c s. List·Permᴰ (endJoined net t c s e .lanes) (c .turns e)) (λ t h. per .turns t e h)
+        (λ t h. Permᴰ·refl (endJoined net t (rest t (ext t)) (ext t) e .lanes)) t;
     flight-least = λ t h f l. each (λ t ms c s. List·Memᴰ f (setsOut net t c s h) → portAt net (hopAt net h .port) .delayLeast ≤ c .flight h f)
         (λ t i. per .flight-least t h f i l) (λ t i k. le-refl (portAt net (hopAt net h .port) .delayLeast)) t;
     flight-greatest = λ t h f l. each (λ t ms c s. List·Memᴰ f (setsOut net t c s h) → c .flight h f ≤ portAt net (hopAt net h .port) .delayGreatest)

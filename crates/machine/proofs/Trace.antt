@@ -7,15 +7,13 @@ use mathlib.Core.Path.{_≡_, refl, sym, ap}
 use Rattle.network.specs.Network.{Network, vlAt, hopAt}
 use Rattle.network.specs.Views.{leaf}
 use Rattle.machine.specs.Pool.{Due, setOut, landed, later}
+use Rattle.machine.specs.Turn.{Lane}
 use Rattle.machine.specs.Queue.{Queue}
-use Rattle.machine.specs.Queue as Queue
 use Rattle.machine.specs.Mux.{Mux}
-use Rattle.machine.specs.Mux as Mux
 use Rattle.machine.specs.Fifo.{Fifo, ended}
-use Rattle.machine.specs.Fifo as Fifo
 use Rattle.machine.specs.Messages.{Message, Packet, Frame, Copy, toLane, endCost, portCost, framed, ofVl, ofHop}
 use Rattle.machine.specs.Machine.{State, Choice, Run, state, start, delivered, setsOut, allFlying, complete, hands, released}
-use Rattle.machine.proofs.Parts.{pool, lands, queue, handed, mux, mux-out, fifo, fifo-out}
+use Rattle.machine.proofs.Parts.{queue-tick, mux-tick, fifo-tick, pool, lands, queue, handed, mux, mux-out, fifo, fifo-out}
 
 module _ (net : Network) (r : Run) where
   abbrev pub ch : ℕ → Choice
@@ -37,7 +35,7 @@ module _ (net : Network) (r : Run) where
   pub queue-is : (v t : ℕ) → st t .queue v ≡ queue (vlAt net v .gap) (start net r .queue v) (news v) t
   unfolding state queue
   queue-is v zero = refl
-  queue-is v (suc t) = ap (λ (s : Queue Packet). Queue.tick (vlAt net v .gap) t (news v t) s .queue) (queue-is v t)
+  queue-is v (suc t) = ap (λ (s : Queue Packet). queue-tick (vlAt net v .gap) t (news v t) s .queue) (queue-is v t)
 
   -- the frame that VL v hands over in tick t, if any
   abbrev pub hand : ℕ → ℕ → List Frame
@@ -45,23 +43,26 @@ module _ (net : Network) (r : Run) where
 
   pub hand-is : (v t : ℕ) → hand v t ≡ framed v t (handed (vlAt net v .gap) (start net r .queue v) (news v) t)
   unfolding handed
-  hand-is v t = ap (λ (s : Queue Packet). framed v t (Queue.tick (vlAt net v .gap) t (news v t) s .got)) (queue-is v t)
+  hand-is v t = ap (λ (s : Queue Packet). framed v t (queue-tick (vlAt net v .gap) t (news v t) s .got)) (queue-is v t)
 
   pub hands-is : (v t : ℕ) → hands net t (ch t) (st t) v .got ≡ handed (vlAt net v .gap) (start net r .queue v) (news v) t
   unfolding handed
-  hands-is v t = ap (λ (s : Queue Packet). Queue.tick (vlAt net v .gap) t (news v t) s .got) (queue-is v t)
+  hands-is v t = ap (λ (s : Queue Packet). queue-tick (vlAt net v .gap) t (news v t) s .got) (queue-is v t)
 
-  -- end systems
-  pub end-is : (e t : ℕ) → st t .end e ≡ mux (endCost net e) (start net r .end e) (λ u v. hand v u) t
+  -- end systems: the order in which the link of end system e looks at its VLs in tick t
+  abbrev pub looks : ℕ → ℕ → List (Lane Frame)
+  looks e t = ch t .turns e
+
+  pub end-is : (e t : ℕ) → st t .end e ≡ mux (endCost net e) (start net r .end e) (λ u v. hand v u) (looks e) t
   unfolding state mux
   end-is e zero = refl
-  end-is e (suc t) = ap (λ (s : Mux Frame). Mux.tick (endCost net e) t (λ v. hand v t) s) (end-is e t)
+  end-is e (suc t) = ap (λ (s : Mux Frame). mux-tick (endCost net e) t (λ v. hand v t) (looks e t) s) (end-is e t)
 
   -- what the end system of VL v sends whole of it in tick t
   abbrev pub sent : ℕ → ℕ → List Frame
   sent v t = ofVl v (ended t (st t .end (vlAt net v .system) .link))
 
-  pub sent-is : (v t : ℕ) → ofVl v (mux-out (endCost net (vlAt net v .system)) (start net r .end (vlAt net v .system)) (λ u w. hand w u) t) ≡ sent v t
+  pub sent-is : (v t : ℕ) → ofVl v (mux-out (endCost net (vlAt net v .system)) (start net r .end (vlAt net v .system)) (λ u w. hand w u) (looks (vlAt net v .system)) t) ≡ sent v t
   unfolding mux-out
   sent-is v t = ap (λ (s : Mux Frame). ofVl v (ended t (s .link))) (sym (end-is (vlAt net v .system) t))
 
@@ -85,7 +86,7 @@ module _ (net : Network) (r : Run) where
   pub port-is : (p t : ℕ) → st t .port p ≡ fifo (portCost net p) (λ u. ch u .enter p) t
   unfolding state fifo
   port-is p zero = refl
-  port-is p (suc t) = ap (λ (s : Fifo Copy). Fifo.tick (portCost net p) t (ch t .enter p) s) (port-is p t)
+  port-is p (suc t) = ap (λ (s : Fifo Copy). fifo-tick (portCost net p) t (ch t .enter p) s) (port-is p t)
 
   abbrev pub into : ℕ → ℕ → List Frame
   into h t = ofHop h (ch t .enter (hopAt net h .port))

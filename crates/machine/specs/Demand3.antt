@@ -15,7 +15,7 @@ use Rattle.station.specs.Station.{most, figure}
 use Rattle.machine.specs.Sum.{span}
 use Rattle.machine.specs.Messages.{Release, Message, Packet, Frame, vlOf, packetsIn}
 use Rattle.machine.specs.Machine.{Run, released, state, hands, complete}
-use Rattle.machine.specs.Permitted.{Sized, releasedBy, streamFlow, PermittedBelow, Permitted}
+use Rattle.machine.specs.Permitted.{Sized, releasedBy, streamFlow, PermittedBelow, InTurn, Permitted}
 use Rattle.machine.specs.Sound.{Sound, Busy}
 
 module _ (net : Network) where
@@ -57,6 +57,7 @@ module _ (net : Network) where
   pub record Reaches (s w : ℕ) : Type 0 where
     pub run : Run
     pub permitted : Permitted net run
+    pub in-turn : (n : ℕ) → InTurn net run n
     pub message : Message
     pub stream : message .stream ≡ s
     pub came : ℕ
@@ -107,6 +108,7 @@ module _ (net : Network) where
   pub record RunsAs (releases : ℕ → List Release) (send : ℕ → Message → ℕ) (flight receive : ℕ → ℕ → Frame → ℕ) (firstSub firstVl : ℕ → ℕ) : Type 0 where
     pub run : Run
     pub permitted : Permitted net run
+    pub in-turn : (n : ℕ) → InTurn net run n
     pub releases-are : run .releases ≡ releases
     pub first-sub-is : run .firstSub ≡ firstSub
     pub first-vl-is : run .firstVl ≡ firstVl

@@ -8,7 +8,7 @@ use Rattle.base.specs.Tabulate.{passing}
 use Rattle.network.specs.Network.{Network, vlAt, hopAt}
 use Rattle.network.specs.Views.{hopsOn, vlsOf, leaf}
 use Rattle.machine.specs.Lists.{chosen, gather}
-use Rattle.machine.specs.Turn.{lanesOf, fromTurn}
+use Rattle.machine.specs.Turn.{Lane, lanesOf, fromTurn}
 use Rattle.machine.specs.Pool.{Due, setOut, landed, later}
 use Rattle.machine.specs.Queue.{Queue, Handed}
 use Rattle.machine.specs.Queue as Queue
@@ -29,12 +29,13 @@ pub record State : Type 0 where
   pub receiving : ℕ → List (Due Frame)
 
 -- ---- what is free in a tick
--- the send delay of each message released; the messages that reach their queues, in order; the switch delay of each frame that sets out to a hop; the copies that reach each port, in order; the receive delay of each frame that leaves a hop. (In a tick at most one frame sets out to a hop and at most one leaves it, so a delay for each hop and frame is one for each frame that there is.)
+-- the send delay of each message released; the messages that reach their queues, in order; the switch delay of each frame that sets out to a hop; the copies that reach each port, in order; the VLs of each end system with what waits in them, in the order in which its link looks at them; the receive delay of each frame that leaves a hop. (In a tick at most one frame sets out to a hop and at most one leaves it, so a delay for each hop and frame is one for each frame that there is.)
 pub record Choice : Type 0 where
   pub send : Message → ℕ
   pub reach : List Message
   pub flight : ℕ → Frame → ℕ
   pub enter : ℕ → List Copy
+  pub turns : ℕ → List (Lane Frame)
   pub receive : ℕ → Frame → ℕ
 
 -- ---- a run: what the streams release in each tick, which turn comes first (of the sub-links of each VL, of the VLs of each end system), and what is free in each tick. The releases stand by themselves: runs of two networks can have the same.
@@ -97,9 +98,9 @@ module _ (net : Network) where
     endJoined e = Mux.joined t (λ v. framed v t (hands v .got)) (s .end e)
 
     -- ---- starts
-    -- "An idle end-system link sends the next VL's waiting packet, in turn."
+    -- "An idle end-system link sends the next VL's waiting packet, in turn.": in which turn, the choice says
     abbrev pub endStarted : ℕ → Mux Frame
-    endStarted e = Mux.started (endCost net e) t (endJoined e)
+    endStarted e = Mux.started (endCost net e) t (c .turns e) (endJoined e)
 
     -- "An idle port sends the head of its FIFO."
     abbrev pub portStarted : ℕ → Fifo Copy

@@ -13,7 +13,7 @@ use Rattle.station.specs.Station.{most}
 use Rattle.machine.specs.Sum.{span, count}
 use Rattle.machine.specs.Pool.{landed}
 use Rattle.machine.specs.Messages.{Release, Message, Frame}
-use Rattle.machine.specs.Machine.{Run, released, delivered, setsOut, reaches, allSending, state}
+use Rattle.machine.specs.Machine.{Run, released, delivered, setsOut, reaches, endJoined, allSending, state}
 
 -- a stream as a flow of its own T and J
 abbrev pub streamFlow : Network → ℕ → Flow
@@ -40,6 +40,8 @@ module _ (net : Network) where
     -- "same-tick order is free", "ties free": what comes is what is due, in any order
     pub reach : (t : ℕ) → t < n → List·Permᴰ (landed t (allSending net t (released r t) (r .choice t) (state net r t))) (r .choice t .reach)
     pub enter : (t p : ℕ) → t < n → List·Permᴰ (reaches net t (r .choice t) (state net r t) p) (r .choice t .enter p)
+    -- "An idle end-system link sends the next VL's waiting packet": any VL's, since what its link looks at is what waits, in any order
+    pub turns : (t e : ℕ) → t < n → List·Permᴰ (endJoined net t (r .choice t) (state net r t) e .lanes) (r .choice t .turns e)
     -- "after a permitted switch delay of its own"
     pub flight-least :
         (t h : ℕ) (f : Frame) → t < n → h < length (net .hops) → List·Memᴰ f (setsOut net t (r .choice t) (state net r t) h)
@@ -54,6 +56,10 @@ module _ (net : Network) where
     pub receive-greatest :
         (t h : ℕ) (f : Frame) → t < n → leaf net h ≡ true → List·Memᴰ f (delivered net t (r .choice t) (state net r t) h)
         → r .choice t .receive h f ≤ net .receiveGreatest
+
+  -- ".., in turn": in each tick below n the link looks at the VLs as they stand, from the one after the last that it served
+  abbrev pub InTurn : Run → ℕ → Type 0
+  InTurn r n = (t e : ℕ) → t < n → r .choice t .turns e ≡ endJoined net t (r .choice t) (state net r t) e .lanes
 
   -- permitted however long it goes on
   abbrev pub Permitted : Run → Type 0
