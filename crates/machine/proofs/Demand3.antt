@@ -25,7 +25,7 @@ use Rattle.machine.proofs.Covers.{cost-covered, queue-covers}
 use Rattle.machine.proofs.Routes.{windows, worst-is, best-is, queue-is}
 use Rattle.machine.proofs.Arrivals.{flow-cost}
 use Rattle.machine.proofs.Auto.{runs}
-use Rattle.machine.proofs.Stopped.{no-later-below, no-earlier-below, waits-below}
+use Rattle.machine.proofs.Stopped.{continued, no-later-below, no-earlier-below, waits-below}
 use Rattle.machine.proofs.Worth.{Aim}
 use Rattle.machine.proofs.Reached.{reached}
 
@@ -94,4 +94,5 @@ demand-3-over-networks net sound busy = record {
   reached = reaches net sound busy;
   nothing-cut-off = fits net sound busy;
   runs = runs net;
+  continues = continued net sound;
 }

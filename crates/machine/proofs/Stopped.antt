@@ -1,4 +1,4 @@
--- Runs that stop: what is permitted up to a tick goes on to a permitted run, with no further release, so the bounds hold of it.
+-- Runs that stop: what is permitted up to a tick goes on to a permitted run, with no further release; so the bounds, shown of runs without end, hold of it.
 -- Assumes nothing.
 use Prim.Native.Nat.{ℕ, zero, suc, _+_, _≤_, _<_}
 use mathlib.Core.Bool.{Bool, true, cond}
@@ -20,10 +20,10 @@ use Rattle.machine.specs.Messages.{Release, Message, Packet, Frame, mess
 use Rattle.machine.specs.Machine.{State, Choice, Run, released, delivered, setsOut, reaches, endJoined, complete, hands, allSending, step, start, state}
 use Rattle.machine.specs.Permitted.{streamFlow, releasedBy, PermittedBelow}
 use Rattle.machine.specs.Sound.{Sound}
-use Rattle.machine.specs.Demand3.{Complete, Hands}
+use Rattle.machine.specs.Demand3.{Complete, Hands, Continued}
 use Rattle.machine.proofs.Cases.{by-leb}
 use Rattle.machine.proofs.Envelope.{div-mono}
-use Rattle.machine.proofs.Endless.{Endless}
+use Rattle.machine.proofs.Endless.{Endless, permitted}
 use Rattle.machine.proofs.Windows.{queueStation, Windows, latest, soonest}
 use Rattle.machine.proofs.Theorem.{no-later, no-earlier, waits}
 use Rattle.machine.proofs.Auto.{full}
@@ -139,17 +139,34 @@ module _ (net : Network) (sound : Sound net) (r : Run) (n : ℕ) (per : Permitte
   }
 
   -- ---- in the ticks below n the two are one
-  same : (t h : ℕ) → t < n → complete net t (on .choice t) (state net on t) h ≡ complete net t (r .choice t) (state net r t) h
+  same-choice : (t : ℕ) → t < n → on .choice t ≡ r .choice t
   unfolding on
-  same t h k = ap₂ (λ (c : Choice) (s : State). complete net t c s h) (before t (ext t) k) (on-state t ∙ sym (agree t (omega arith)))
+  same-choice t k = before t (ext t) k
+
+  same-state : (t : ℕ) → t ≤ n → state net on t ≡ state net r t
+  same-state t k = on-state t ∙ sym (agree t k)
+
+  pub continued : Continued net r n
+  unfolding on
+  continued = record {
+    run = on;
+    permitted = permitted net on goes-on;
+    in-turn = λ h m t e k. each (λ t ms c s. c .turns e ≡ endJoined net t c s e .lanes) (λ t i. h t e i) (λ t i. refl) t;
+    same-first-sub = refl;
+    same-first-vl = refl;
+    same-releases = releases-before;
+    same-choice = same-choice;
+    same-state = same-state;
+  }
+
+  same : (t h : ℕ) → t < n → complete net t (on .choice t) (state net on t) h ≡ complete net t (r .choice t) (state net r t) h
+  same t h k = ap₂ (λ (c : Choice) (s : State). complete net t c s h) (same-choice t k) (same-state t (omega arith))
 
   same-hands : (v t : ℕ) (x : Packet) → t < n → Hands net r v t x → Hands net on v t x
-  unfolding on
-  same-hands v t x k e = ap₂ (λ (c : Choice) (s : State). hands net t c s v .got) (before t (ext t) k) (on-state t ∙ sym (agree t (omega arith))) ∙ e
+  same-hands v t x k e = ap₂ (λ (c : Choice) (s : State). hands net t c s v .got) (same-choice t k) (same-state t (omega arith)) ∙ e
 
   same-reach : (t : ℕ) → t < n → on .choice t .reach ≡ r .choice t .reach
-  unfolding on
-  same-reach t k = ap (λ (c : Choice). c .reach) (before t (ext t) k)
+  same-reach t k = ap (λ (c : Choice). c .reach) (same-choice t k)
 
   pub record Wait-below (x : Packet) (t : ℕ) : Type 0 where
     pub came : ℕ

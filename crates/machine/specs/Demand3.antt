@@ -120,6 +120,21 @@ module _ (net : Network) where
   Runs = (releases : ℕ → List Release) (send : ℕ → Message → ℕ) (flight receive : ℕ → ℕ → Frame → ℕ) (firstSub firstVl : ℕ → ℕ)
       → Planned releases send flight receive → RunsAs releases send flight receive firstSub firstVl
 
+  -- ---- none of them is at an end: what is permitted in the ticks below n goes on, permitted however long, and in turn if it was
+  pub record Continued (r : Run) (n : ℕ) : Type 0 where
+    pub run : Run
+    pub permitted : Permitted net run
+    pub in-turn : InTurn net r n → (m : ℕ) → InTurn net run m
+    pub same-first-sub : run .firstSub ≡ r .firstSub
+    pub same-first-vl : run .firstVl ≡ r .firstVl
+    pub same-releases : (t : ℕ) → t < n → run .releases t ≡ r .releases t
+    pub same-choice : (t : ℕ) → t < n → run .choice t ≡ r .choice t
+    -- and so
+    pub same-state : (t : ℕ) → t ≤ n → state net run t ≡ state net r t
+
+  abbrev pub Continues : Type 0
+  Continues = (r : Run) (n : ℕ) → PermittedBelow net r n → Continued r n
+
   pub record Holds : Type 0 where
     pub no-later : No-later
     pub no-earlier : No-earlier
@@ -127,6 +142,7 @@ module _ (net : Network) where
     pub reached : Reached
     pub nothing-cut-off : Nothing-cut-off
     pub runs : Runs
+    pub continues : Continues
 
 abbrev pub Demand-3-over-networks : Type 0
 Demand-3-over-networks = (net : Network) → Sound net → Busy net → Holds net

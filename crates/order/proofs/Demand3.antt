@@ -48,6 +48,7 @@ module _ (net : Network) (refs : References net) (machine : Machine.Holds net) (
     every-destination = row-for net room result rows-are;
     every-stream = row-of net room result rows-are refs;
     runs = machine .runs;
+    continues = machine .continues;
   }
 
 pub demand-3 : Demand-3

@@ -14,7 +14,7 @@ use Rattle.analysis.specs.Analysis.{Analyses}
 use Rattle.machine.specs.Messages.{Message, Packet}
 use Rattle.machine.specs.Machine.{Run, released}
 use Rattle.machine.specs.Permitted.{PermittedBelow}
-use Rattle.machine.specs.Demand3.{Complete, Hands, Waited, Reaches, Runs}
+use Rattle.machine.specs.Demand3.{Complete, Hands, Waited, Reaches, Runs, Continues}
 
 -- a result of `rows` rows, of six numbers each: "stream, hop, queue, worst, best, jitter"
 module _ (result : List ℕ) (i : ℕ) where
@@ -71,6 +71,8 @@ pub record Holds (net : Network) (rows : ℕ) (result : List ℕ) : Type 0 where
   pub every-stream : (s : ℕ) → s < length (net .streams) → RowOf rows result s
   -- and there are such runs: for all releases that keep the rule, with any delays within their bounds and any first turns
   pub runs : Runs net
+  -- and each goes on: "A run may stop at any tick", but none has to
+  pub continues : Continues net
 
 -- for all bytes that the analysis accepts, with the rows that it leaves
 abbrev pub Demand-3 : Type 0
