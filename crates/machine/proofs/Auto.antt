@@ -8,7 +8,7 @@ use Rattle.machine.specs.Pool.{landed}
 use Rattle.machine.specs.Messages.{Release, Message, Frame, messages}
 use Rattle.machine.specs.Machine.{State, Choice, Run, reaches, endJoined, allSending, step, start, state}
 use Rattle.machine.specs.Permitted.{InTurn}
-use Rattle.machine.specs.Demand3.{Planned, Runs}
+use Rattle.machine.specs.Runs.{Planned, Runs}
 use Rattle.machine.proofs.Endless.{Endless, permitted}
 
 module _ (net : Network) (releases : ℕ → List Release) (send : ℕ → Message → ℕ) (flight receive : ℕ → ℕ → Frame → ℕ) (firstSub firstVl : ℕ → ℕ)

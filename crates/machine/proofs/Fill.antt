@@ -18,7 +18,7 @@ use Rattle.machine.specs.Lists.{chosen, gather}
 use Rattle.machine.specs.Messages.{Release, Message, Frame}
 use Rattle.machine.specs.Permitted.{streamFlow, Sized, releasedBy}
 use Rattle.machine.specs.Sound.{Sound}
-use Rattle.machine.specs.Demand3.{Planned}
+use Rattle.machine.specs.Runs.{Planned}
 use Rattle.machine.proofs.Cases.{eq→eqb, by-test, both}
 use Rattle.machine.proofs.Flows.{most-pos}
 use Rattle.machine.proofs.Select.{was-chosen, is-chosen, is-passing, was-passing, was-gathered, is-gathered}

@@ -36,5 +36,5 @@ pub mod OneLane
 pub mod Fill
 pub mod Worth
 pub mod Reached
-pub mod Demand3
+pub mod OverNetworks
 pub mod Whole

@@ -19,7 +19,7 @@ use Rattle.machine.specs.Queue.{Queue}
 use Rattle.machine.specs.Messages.{Release, Message, Packet, number, vlOf, packetsIn, toLane}
 use Rattle.machine.specs.Machine.{Run, hands}
 use Rattle.machine.specs.Sound.{Sound}
-use Rattle.machine.specs.Demand3.{Reaches}
+use Rattle.machine.specs.Runs.{Reaches}
 use Rattle.machine.proofs.Cases.{not-both, eq→eqb, by-test}
 use Rattle.machine.proofs.Parts.{queue, handed}
 use Rattle.machine.proofs.Sums.{upto, upto-same, grows, crosses}

@@ -20,7 +20,7 @@ use Rattle.machine.specs.Messages.{Release, Message, Packet, Frame, mess
 use Rattle.machine.specs.Machine.{State, Choice, Run, released, delivered, setsOut, reaches, endJoined, complete, hands, allSending, step, start, state}
 use Rattle.machine.specs.Permitted.{streamFlow, releasedBy, PermittedBelow}
 use Rattle.machine.specs.Sound.{Sound}
-use Rattle.machine.specs.Demand3.{Complete, Hands, Continued}
+use Rattle.machine.specs.Runs.{Complete, Hands, Continued}
 use Rattle.machine.proofs.Cases.{by-leb}
 use Rattle.machine.proofs.Envelope.{div-mono}
 use Rattle.machine.proofs.Endless.{Endless, permitted}

@@ -14,7 +14,7 @@ use Rattle.network.specs.Views.{leaf}
 use Rattle.machine.specs.Messages.{Message, Packet, Frame, vlOf, packetsIn, framed}
 use Rattle.machine.specs.Machine.{Run, released}
 use Rattle.machine.specs.Sound.{Sound}
-use Rattle.machine.specs.Demand3.{Complete, Hands}
+use Rattle.machine.specs.Runs.{Complete, Hands}
 use Rattle.machine.proofs.Told.{packets-mono, packets-pos}
 use Rattle.machine.proofs.Trace.{ch, hand}
 use Rattle.machine.proofs.Endless.{arrival, Endless, good}

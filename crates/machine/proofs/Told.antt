@@ -14,7 +14,8 @@ use Rattle.frame.proofs.FrameLaws.{protocol-overhead-is}
 use Rattle.frame.proofs.PacketLaws.{packets-grow, packets-some, packet-lines-length}
 use Rattle.station.specs.Station.{most}
 use Rattle.machine.specs.Sum.{weigh}
-use Rattle.machine.specs.Messages.{Told-apart, Message, Packet, number, Release, messages}
+use Rattle.machine.specs.Messages.{Message, Packet, number, Release, messages}
+use Rattle.machine.specs.OverNetworks.{Told-apart}
 
 -- ---- the messages of a tick
 -- a message is the message of a release of its tick

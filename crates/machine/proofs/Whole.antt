@@ -31,8 +31,8 @@ use Rattle.station.specs.Station.{most, brought, limit, busyLength, figure}
 use Rattle.station.specs.Offered.{inRange, allInRange}
 use Rattle.station.proofs.Computed.{climb, descend, computed-length, computed-figure}
 use Rattle.machine.specs.Sound.{Sound, Has, Busy}
-use Rattle.machine.specs.Demand3.{Holds}
-use Rattle.machine.proofs.Demand3.{demand-3-over-networks}
+use Rattle.machine.specs.OverNetworks.{Holds}
+use Rattle.machine.proofs.OverNetworks.{demand-3-over-networks}
 
 -- "Send delay 500 to 1,000, receive 500 to 500; one 100 Mbit/s end system; VL 0: 1 ms, Lmax 1,518; VL 1: 2 ms, Lmax 516; one sub-link each. Stream 0: VL 0, queuing, M 2,000, least 1,000, T 250,000, J 0. Stream 1: VL 1, sampling, M 469, least 10, T 500,000, J 1,000. One port, 100 Mbit/s, 875 to 1,250; hop 0 VL 0, hop 1 VL 1, no parents."
 abbrev pub whole : Network

@@ -8,5 +8,6 @@ pub mod Fifo
 pub mod Messages
 pub mod Machine
 pub mod Permitted
+pub mod Runs
 pub mod Sound
-pub mod Demand3
+pub mod OverNetworks

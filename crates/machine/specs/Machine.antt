@@ -1,5 +1,5 @@
--- The tick machine of demand 3: what a network may do, tick by tick. A sentence in quotes is 01's, except where it is said to be the order's. Lists are queues, their heads first; none is bounded and nothing is dropped.
--- Assumes nothing.
+-- The tick machine of demand 3: what a network may do, tick by tick. A sentence in quotes is 01's, except where it is said to be the
+-- order's. Lists are queues, their heads first; none is bounded and nothing is dropped. Assumes nothing.
 use Prim.Native.Nat.{ℕ, zero, suc}
 use mathlib.Core.Bool.{true, cond}
 use mathlib.Core.List.{List, [], _++_}
@@ -16,29 +16,37 @@ use Rattle.machine.specs.Mux.{Mux}
 use Rattle.machine.specs.Mux as Mux
 use Rattle.machine.specs.Fifo.{Fifo, ended}
 use Rattle.machine.specs.Fifo as Fifo
-use Rattle.machine.specs.Messages.{Release, Message, Packet, Frame, Copy, messages, framed, copy, ofVl, ofHop, toLane, endCost, portCost}
+use Rattle.machine.specs.Messages.{Release, Message, Packet, Frame, Copy, messages, framed, copy, ofVl, ofHop, toLane}
+use Rattle.machine.specs.Messages.{endCost, portCost}
 
 -- ---- the state before a tick
--- messages on the way to their queues; the queues of each VL; each end system; frames on the way to each hop's port; each port; frames on the way from each hop to its destination
 pub record State : Type 0 where
+  -- messages on the way to their queues; the queues of each VL; each end system
   pub sending : List (Due Message)
   pub queue : ℕ → Queue Packet
   pub end : ℕ → Mux Frame
+  -- frames on the way to each hop's port; each port; frames on the way from each hop to its destination
   pub flying : ℕ → List (Due Frame)
   pub port : ℕ → Fifo Copy
   pub receiving : ℕ → List (Due Frame)
 
 -- ---- what is free in a tick
--- the send delay of each message released; the messages that reach their queues, in order; the switch delay of each frame that sets out to a hop; the copies that reach each port, in order; the VLs of each end system with what waits in them, in the order in which its link looks at them; the receive delay of each frame that leaves a hop. (In a tick at most one frame sets out to a hop and at most one leaves it, so a delay for each hop and frame is one for each frame that there is.)
+-- (at most one frame sets out to a hop in it and at most one leaves it, so a delay for each hop and frame is one for each frame that
+-- there is)
 pub record Choice : Type 0 where
+  -- the send delay of each message released, and the messages that reach their queues, in order
   pub send : Message → ℕ
   pub reach : List Message
+  -- the switch delay of each frame that sets out to a hop, and the copies that reach each port, in order
   pub flight : ℕ → Frame → ℕ
   pub enter : ℕ → List Copy
+  -- the VLs of each end system with what waits in them, in the order in which its link looks at them
   pub turns : ℕ → List (Lane Frame)
+  -- the receive delay of each frame that leaves a hop
   pub receive : ℕ → Frame → ℕ
 
--- ---- a run: what the streams release in each tick, which turn comes first (of the sub-links of each VL, of the VLs of each end system), and what is free in each tick. The releases stand by themselves: runs of two networks can have the same.
+-- ---- a run: what the streams release in each tick, which turn comes first (of the sub-links of each VL, of the VLs of each end
+-- system), and what is free in each tick. The releases stand by themselves: runs of two networks can have the same.
 pub record Run : Type 0 where
   pub releases : ℕ → List Release
   pub firstSub : ℕ → ℕ
@@ -57,7 +65,8 @@ module _ (net : Network) where
     abbrev pub delivered : ℕ → List Frame
     delivered h = ofHop h (ended t (s .port (hopAt net h .port) .link))
 
-    -- "A frame sent whole by the end system goes to every hop of its VL without parent, one sent whole by a port to every hop whose parent is that hop."
+    -- "A frame sent whole by the end system goes to every hop of its VL without parent, one sent whole by a port to every hop whose
+    -- parent is that hop."
     abbrev pub setsFrom : ℕ → Option ℕ → List Frame
     setsFrom v none = ofVl v (ended t (s .end (vlAt net v .system) .link))
     setsFrom v (some g) = delivered g
@@ -89,7 +98,9 @@ module _ (net : Network) where
     abbrev pub queueArrived : ℕ → Queue Packet
     queueArrived v = Queue.arrived (λ k. toLane net v k (c .reach)) (s .queue v)
 
-    -- ---- hand-overs: "Then, in that tick, each VL whose last hand-over is at least one BAG old (or never was) hands over one packet, sub-links in turn, empty ones passed"
+    -- ---- hand-overs
+    -- "Then, in that tick, each VL whose last hand-over is at least one BAG old (or never was) hands over one packet, sub-links in
+    -- turn, empty ones passed"
     abbrev pub hands : ℕ → Handed Packet
     hands v = Queue.handOver (vlAt net v .gap) t (queueArrived v)
 
@@ -98,7 +109,7 @@ module _ (net : Network) where
     endJoined e = Mux.joined t (λ v. framed v t (hands v .got)) (s .end e)
 
     -- ---- starts
-    -- "An idle end-system link sends the next VL's waiting packet, in turn.": in which turn, the choice says
+    -- "An idle end-system link sends the next VL's waiting packet, in turn.": the choice has the order in which it looks at its VLs
     abbrev pub endStarted : ℕ → Mux Frame
     endStarted e = Mux.started (endCost net e) t (c .turns e) (endJoined e)
 
@@ -106,7 +117,8 @@ module _ (net : Network) where
     abbrev pub portStarted : ℕ → Fifo Copy
     portStarted p = Fifo.started (portCost net p) t (portArrived p)
 
-  -- all messages on the way in tick t, with those that are released in it: "Each message reaches its sub-link queue whole after a permitted send delay"
+  -- all messages on the way in tick t, with those that are released in it: "Each message reaches its sub-link queue whole after a permitted
+  -- send delay"
   abbrev pub allSending : ℕ → List Message → Choice → State → List (Due Message)
   allSending t ms c s = s .sending ++ setOut t (c .send) ms
 

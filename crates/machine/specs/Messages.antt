@@ -1,12 +1,10 @@
 -- Releases, messages, packets and frames: what goes through the network.
 -- Assumes nothing.
-use Prim.Native.Nat.{ℕ, suc, _*_, _<_}
+use Prim.Native.Nat.{ℕ, suc, _*_}
 use mathlib.Core.Bool.{cond, _&&_}
 use mathlib.Core.List.{List, [], _∷_, _++_}
 use mathlib.Core.Option.{Option, none, some}
-use mathlib.Core.Path.{_≡_}
 use lib.Dec.{eqb}
-use lib.ListN.{length, getD}
 use Rattle.frame.specs.Packets.{packetLines}
 use Rattle.network.specs.Network.{Network, systemAt, vlAt, streamAt, portAt}
 use Rattle.machine.specs.Lists.{chosen}
@@ -16,7 +14,7 @@ pub record Release : Type 0 where
   pub stream : ℕ
   pub size : ℕ
 
--- a message is told by the tick of its release and its place in that tick's list: no two are the same
+-- a message is told by the tick of its release and its place in that tick's list, so no two are the same
 pub record Message : Type 0 where
   pub released : ℕ
   pub place : ℕ
@@ -44,11 +42,6 @@ pub record Copy : Type 0 where
 abbrev pub messages : ℕ → ℕ → List Release → List Message
 messages t i [] = []
 messages t i (x ∷ xs) = record { released = t; place = i; stream = x .stream; size = x .size } ∷ messages t (suc i) xs
-
--- so two messages are the same only if their ticks and their places are
-abbrev pub Told-apart : Type 0
-Told-apart = (t u i k : ℕ) (xs ys : List Release) (d : Message) → i < length xs → k < length ys
-    → getD (messages t 0 xs) i d ≡ getD (messages u 0 ys) k d → (t ≡ u) × (i ≡ k)
 
 abbrev pub number : Message → ℕ → List ℕ → List Packet
 number m i [] = []

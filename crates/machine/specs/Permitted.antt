@@ -1,5 +1,5 @@
--- The runs that are permitted, in the order's words "releases as the table permits, hardware delays within their bounds"; any other sentence in quotes is 01's. A run may stop at any tick, so this is asked of the ticks below one.
--- Assumes nothing.
+-- The runs that are permitted, in the order's words "releases as the table permits, hardware delays within their bounds"; any other
+-- sentence in quotes is 01's. A run may stop at any tick, so this is asked of the ticks below one. Assumes nothing.
 use Prim.Native.Nat.{ℕ, _+_, _≤_, _<_}
 use mathlib.Core.Bool.{true}
 use mathlib.Core.List.{List, List·Memᴰ, List·Permᴰ}
@@ -33,7 +33,9 @@ module _ (net : Network) where
   pub record PermittedBelow (r : Run) (n : ℕ) : Type 0 where
     pub sized : (t : ℕ) (x : Release) → t < n → List·Memᴰ x (r .releases t) → Sized net x
     -- "in any span no more than a flow of its own T and J brings"
-    pub rule : (s : ℕ) → s < length (net .streams) → (x d : ℕ) → x + d < n → span (releasedBy (r .releases) s) x d ≤ most (streamFlow net s) d
+    pub rule :
+        (s : ℕ) → s < length (net .streams) → (x d : ℕ) → x + d < n
+        → span (releasedBy (r .releases) s) x d ≤ most (streamFlow net s) d
     -- "after a permitted send delay"
     pub send-least : (t : ℕ) (m : Message) → t < n → List·Memᴰ m (released r t) → net .sendLeast ≤ r .choice t .send m
     pub send-greatest : (t : ℕ) (m : Message) → t < n → List·Memᴰ m (released r t) → r .choice t .send m ≤ net .sendGreatest

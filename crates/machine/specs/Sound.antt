@@ -1,5 +1,6 @@
--- What demand 3 asks of a network: references as 01 has them, records in range, end systems that send a frame of each of their VLs within a gap; and that the busy lengths exist.
--- Assumes nothing.
+-- What the machine's own theorem (OverNetworks) asks of a network: references as 01 has them, records in range, end systems that send a
+-- frame of each of their VLs within a gap; and that the busy lengths exist. The order's demand 3 asks only that the table is accepted,
+-- which gives all this (order/proofs/SoundLaws), so nobody has to believe it. Assumes nothing.
 use Prim.Native.Nat.{ℕ, _≤_, _<_}
 use mathlib.Core.Option.{Option, some}
 use mathlib.Core.Path.{_≡_}

@@ -22,7 +22,7 @@ use Rattle.machine.proofs.Told.{packets-mono, packets-pos}
 use Rattle.machine.proofs.Windows.{queueStation, portStation}
 use Rattle.machine.proofs.Covers.{cost-covered, queue-covers, figure-least}
 use Rattle.machine.proofs.Arrivals.{flow-cost}
-use Rattle.machine.proofs.Demand3.{demand-3-over-networks as machines}
+use Rattle.machine.proofs.OverNetworks.{demand-3-over-networks as machines}
 use Rattle.machine.proofs.Routes.{windows, worst-is, best-is}
 use Rattle.order.specs.Demand2.{NothingCutOff}
 

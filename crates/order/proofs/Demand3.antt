@@ -13,9 +13,9 @@ use Rattle.rows.specs.Rows.{queueOf, worst, best, rowsOf}
 use Rattle.analysis.specs.Analysis.{joined}
 use Rattle.machine.specs.Messages.{Message}
 use Rattle.machine.specs.Machine.{Run, released}
-use Rattle.machine.specs.Demand3.{SentTo}
-use Rattle.machine.specs.Demand3 as Machine
-use Rattle.machine.proofs.Demand3.{demand-3-over-networks as machines}
+use Rattle.machine.specs.OverNetworks.{SentTo}
+use Rattle.machine.specs.OverNetworks as Machine
+use Rattle.machine.proofs.OverNetworks.{demand-3-over-networks as machines}
 use Rattle.order.specs.Demand3.{streamIn, hopIn, Holds, Demand-3}
 use Rattle.order.proofs.AcceptedLaws.{accepted-was}
 use Rattle.order.proofs.SoundLaws.{accepted-references, accepted-sound, accepted-busy}

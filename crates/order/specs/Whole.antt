@@ -1,5 +1,5 @@
--- 01, Whole case: its table, byte by byte, and what the three demands say of it with 01's own numbers. It is proved in proofs/Whole.antt, `whole-case : Whole-case`.
--- Assumes nothing.
+-- 01, Whole case: its table, byte by byte, and what the three demands say of it with 01's own numbers. It is proved in proofs/Whole.antt,
+-- `whole-case : Whole-case`. Assumes nothing.
 use Prim.Native.Nat.{ℕ, _+_, _≤_, _<_}
 use mathlib.Core.List.{List, [], _∷_, List·Memᴰ}
 use mathlib.Core.Path.{_≡_}
@@ -13,7 +13,7 @@ use Rattle.analysis.specs.Analysis.{analysisAnswer, Analyses}
 use Rattle.machine.specs.Messages.{Message}
 use Rattle.machine.specs.Machine.{Run, released}
 use Rattle.machine.specs.Permitted.{PermittedBelow}
-use Rattle.machine.specs.Demand3.{Complete, Reaches}
+use Rattle.machine.specs.Runs.{Complete, Reaches}
 
 -- "The header is 01 01 00 20 02 01 00 21 F4 3E 81 F4 1F 40, the table 59 bytes."
 abbrev pub table : List ℕ

@@ -1,25 +1,18 @@
--- Demand 3, as one statement over any sound network whose busy lengths exist. It is proved in proofs/Demand3.antt, `demand-3-over-networks`.
--- Assumes nothing.
+-- What is said of runs: when a message is complete, how long a packet waited, that a wait is reached, that there are runs, and that they go
+-- on. The order's demand 3 is said in these words (order/specs/Demand3). Assumes nothing.
 use Prim.Native.Nat.{ℕ, suc, _+_, _≤_, _<_}
-use mathlib.Core.Bool.{true}
 use mathlib.Core.List.{List, List·Memᴰ}
 use mathlib.Core.Option.{some}
 use mathlib.Core.Path.{_≡_}
 use lib.ListN.{length}
-use Rattle.base.specs.Tests.{numberOr0}
-use Rattle.network.specs.Network.{Network, vlAt, streamAt, portAt, hopAt}
-use Rattle.rows.specs.Queues.{queueFlows, queueLength}
-use Rattle.network.specs.Views.{leaf}
-use Rattle.rows.specs.Rows.{queueOf, worst, best}
-use Rattle.station.specs.Station.{most, figure}
+use Rattle.network.specs.Network.{Network, streamAt, portAt, hopAt}
+use Rattle.station.specs.Station.{most}
 use Rattle.machine.specs.Sum.{span}
-use Rattle.machine.specs.Messages.{Release, Message, Packet, Frame, vlOf, packetsIn}
-use Rattle.machine.specs.Machine.{Run, released, state, hands, complete}
+use Rattle.machine.specs.Messages.{Release, Message, Packet, Frame, packetsIn}
+use Rattle.machine.specs.Machine.{Run, state, hands, complete}
 use Rattle.machine.specs.Permitted.{Sized, releasedBy, streamFlow, PermittedBelow, InTurn, Permitted}
-use Rattle.machine.specs.Sound.{Sound, Busy}
 
 module _ (net : Network) where
-  -- ---- what is said of a run
   -- packet k of the message has come to the destination of hop h by tick u
   pub record Came (r : Run) (m : Message) (h k u : ℕ) : Type 0 where
     pub frame : Frame
@@ -33,19 +26,12 @@ module _ (net : Network) where
   abbrev pub Complete : Run → Message → ℕ → ℕ → Type 0
   Complete r m h u = (k : ℕ) → k < length (packetsIn net m) → Came r m h k u
 
-  -- the message is released in tick t, below n, and hop h leads to a destination of it: a hop of its VL that is nobody's parent
-  pub record SentTo (r : Run) (n t : ℕ) (m : Message) (h : ℕ) : Type 0 where
-    pub running : t < n
-    pub released : List·Memᴰ m (released r t)
-    pub row : h < length (net .hops)
-    pub same-vl : hopAt net h .vl ≡ vlOf net m
-    pub is-leaf : leaf net h ≡ true
-
   -- VL v hands over packet x in tick t
   abbrev pub Hands : Run → ℕ → ℕ → Packet → Type 0
   Hands r v t x = hands net t (r .choice t) (state net r t) v .got ≡ some x
 
-  -- "The wait is hand-over less arrival": packet x, handed over in tick t, waited at most w ticks since it came to its queue, in that tick below n and in no other
+  -- "The wait is hand-over less arrival": packet x, handed over in tick t, waited at most w ticks since it came to its queue, in that tick
+  -- below n and in no other
   pub record Waited (r : Run) (n : ℕ) (x : Packet) (t w : ℕ) : Type 0 where
     pub came : ℕ
     pub reach : List·Memᴰ (x .message) (r .choice came .reach)
@@ -53,7 +39,7 @@ module _ (net : Network) where
     pub not-before : came ≤ t
     pub at-most : t ≤ came + w
 
-  -- in some permitted run the last packet of a message of stream s waits exactly w ticks
+  -- in some run that is permitted and in turn, however long it goes on, the last packet of a message of stream s waits exactly w ticks
   pub record Reaches (s w : ℕ) : Type 0 where
     pub run : Run
     pub permitted : Permitted net run
@@ -70,31 +56,7 @@ module _ (net : Network) where
     pub over : Hands run (streamAt net s .vl) at packet
     pub wait : at ≡ came + w
 
-  -- ---- the demand, of runs that are permitted in the ticks below n and may stop there
-  -- no later than the worst figure, if the run goes on to that tick
-  abbrev pub No-later : Type 0
-  No-later = (r : Run) (n : ℕ) → PermittedBelow net r n → (t : ℕ) (m : Message) (h : ℕ) → SentTo r n t m h
-      → t + worst net (m .stream) h < n → Complete r m h (t + worst net (m .stream) h)
-
-  -- no earlier than the best figure
-  abbrev pub No-earlier : Type 0
-  No-earlier = (r : Run) (n : ℕ) → PermittedBelow net r n → (t : ℕ) (m : Message) (h : ℕ) → SentTo r n t m h
-      → (u : ℕ) → u < n → Complete r m h u → t + best net (m .stream) h ≤ u
-
-  -- no packet waits longer than the queue figure of its stream's sub-link
-  abbrev pub No-longer : Type 0
-  No-longer = (r : Run) (n : ℕ) → PermittedBelow net r n → (v t : ℕ) (x : Packet) → t < n → Hands r v t x → Waited r n x t (queueOf net (x .message .stream))
-
-  -- "On a virtual link with one sub-link the queue figure is also reached: for each stream some permitted run makes a last packet wait exactly that many ticks."
-  abbrev pub Reached : Type 0
-  Reached = (s : ℕ) → s < length (net .streams) → vlAt net (streamAt net s .vl) .subLinks ≡ 1 → Reaches s (queueOf net s)
-
-  -- 01's queue figure is "the station figure less one BAG": the station figure is no less, so nothing is cut off
-  abbrev pub Nothing-cut-off : Type 0
-  Nothing-cut-off = (s : ℕ) → s < length (net .streams) → let v = streamAt net s .vl in let k = streamAt net s .subLink in
-      vlAt net v .gap ≤ figure (queueFlows net v k) (numberOr0 (queueLength net v k))
-
-  -- ---- there are such runs: for releases that keep the rule, delays within their bounds and first turns, whatever they are
+  -- ---- there are runs: for releases that keep the rule, delays within their bounds and first turns, whatever they are
   pub record Planned (releases : ℕ → List Release) (send : ℕ → Message → ℕ) (flight receive : ℕ → ℕ → Frame → ℕ) : Type 0 where
     pub sized : (t : ℕ) (x : Release) → List·Memᴰ x (releases t) → Sized net x
     pub rule : (s : ℕ) → s < length (net .streams) → (x d : ℕ) → span (releasedBy releases s) x d ≤ most (streamFlow net s) d
@@ -105,7 +67,9 @@ module _ (net : Network) where
     pub receive-least : (t h : ℕ) (f : Frame) → net .receiveLeast ≤ receive t h f
     pub receive-greatest : (t h : ℕ) (f : Frame) → receive t h f ≤ net .receiveGreatest
 
-  pub record RunsAs (releases : ℕ → List Release) (send : ℕ → Message → ℕ) (flight receive : ℕ → ℕ → Frame → ℕ) (firstSub firstVl : ℕ → ℕ) : Type 0 where
+  -- permitted and in turn, however long it goes on
+  pub record RunsAs
+      (releases : ℕ → List Release) (send : ℕ → Message → ℕ) (flight receive : ℕ → ℕ → Frame → ℕ) (firstSub firstVl : ℕ → ℕ) : Type 0 where
     pub run : Run
     pub permitted : Permitted net run
     pub in-turn : (n : ℕ) → InTurn net run n
@@ -117,10 +81,11 @@ module _ (net : Network) where
     pub receive-is : (t : ℕ) → run .choice t .receive ≡ receive t
 
   abbrev pub Runs : Type 0
-  Runs = (releases : ℕ → List Release) (send : ℕ → Message → ℕ) (flight receive : ℕ → ℕ → Frame → ℕ) (firstSub firstVl : ℕ → ℕ)
+  Runs =
+      (releases : ℕ → List Release) (send : ℕ → Message → ℕ) (flight receive : ℕ → ℕ → Frame → ℕ) (firstSub firstVl : ℕ → ℕ)
       → Planned releases send flight receive → RunsAs releases send flight receive firstSub firstVl
 
-  -- ---- none of them is at an end: what is permitted in the ticks below n goes on, permitted however long, and in turn if it was
+  -- ---- no run is at an end: what is permitted in the ticks below n goes on, permitted however long, and in turn if it was
   pub record Continued (r : Run) (n : ℕ) : Type 0 where
     pub run : Run
     pub permitted : Permitted net run
@@ -134,15 +99,3 @@ module _ (net : Network) where
 
   abbrev pub Continues : Type 0
   Continues = (r : Run) (n : ℕ) → PermittedBelow net r n → Continued r n
-
-  pub record Holds : Type 0 where
-    pub no-later : No-later
-    pub no-earlier : No-earlier
-    pub no-longer : No-longer
-    pub reached : Reached
-    pub nothing-cut-off : Nothing-cut-off
-    pub runs : Runs
-    pub continues : Continues
-
-abbrev pub Demand-3-over-networks : Type 0
-Demand-3-over-networks = (net : Network) → Sound net → Busy net → Holds net

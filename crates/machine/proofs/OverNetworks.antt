@@ -1,4 +1,4 @@
--- Demand 3, proved: the statement is in specs/Demand3.antt. The bounds are those of the windows, which are the rows' worst and best; the reached wait is the span that attains the queue's station figure, played out.
+-- The machine's own theorem, proved: the statement is in specs/OverNetworks.antt. The bounds are those of the windows, which are the rows' worst and best; the reached wait is the span that attains the queue's station figure, played out.
 -- Assumes nothing.
 use Prim.Native.Nat.{ℕ, _+_, _*_, _≤_, _<_}
 use mathlib.Core.Bool.{_&&_}
@@ -16,7 +16,8 @@ use Rattle.rows.specs.Rows.{worst, best}
 use Rattle.station.specs.Station.{brought, busyLength, figure}
 use Rattle.station.proofs.Facts.{is-attained}
 use Rattle.machine.specs.Sound.{Sound, Has, Busy}
-use Rattle.machine.specs.Demand3.{Complete, Reaches, No-later, No-earlier, No-longer, Reached, Nothing-cut-off, Demand-3-over-networks}
+use Rattle.machine.specs.Runs.{Complete, Reaches}
+use Rattle.machine.specs.OverNetworks.{No-later, No-earlier, No-longer, Reached, Nothing-cut-off, Demand-3-over-networks}
 use Rattle.machine.proofs.Cases.{both}
 use Rattle.machine.proofs.Select.{is-passing}
 use Rattle.machine.proofs.Told.{was-message, packets-pos}
