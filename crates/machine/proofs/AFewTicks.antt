@@ -1,4 +1,4 @@
--- The machine by computation: a few ticks of each part, then three small networks. Each rule of it shows here in a number or a list of its own.
+-- The machine by computation: a few ticks of each part, then four small networks. Each rule of it shows here in a number or a list of its own.
 -- Assumes nothing.
 use Prim.Native.Nat.{ℕ, zero, suc, _+_}
 use mathlib.Core.Bool.{false, cond, _&&_}
@@ -17,6 +17,7 @@ use Rattle.network.specs.Network.{Network}
 use Rattle.network.specs.Views.{hopsOn, vlsOf, isParent, leaf}
 use Rattle.machine.specs.Sum.{span}
 use Rattle.machine.specs.Pool.{landed}
+use Rattle.machine.specs.Turn.{Lane}
 use Rattle.machine.specs.Queue.{Queue}
 use Rattle.machine.specs.Fifo as Fifo
 use Rattle.machine.specs.Messages.{Release, Message, Packet, Frame, messages}
@@ -89,6 +90,62 @@ comes t = lands (λ u x. x) sets-out t
 pub on-the-way : comes 0 ∷ comes 1 ∷ comes 2 ∷ comes 3 ∷ [] ≡ (0 ∷ []) ∷ [] ∷ (2 ∷ []) ∷ [] ∷ []
 unfolding lands pool
 on-the-way = refl
+
+-- ---- two VLs for one link, and no port: each hands over a packet in tick 0, and the link takes that which it looks at first
+abbrev pub pair : Network
+pair = record {
+  sendLeast = 0;
+  sendGreatest = 0;
+  receiveLeast = 0;
+  receiveGreatest = 0;
+  systems = record { perByte = 1 } ∷ [];
+  vls = record { system = 0; gap = 12500; subLinks = 1; lmax = 64 } ∷ record { system = 0; gap = 12500; subLinks = 1; lmax = 64 } ∷ [];
+  streams =
+      record { vl = 0; subLink = 0; sampling = false; size = 10; leastSize = 10; period = 12500; jitter = 0 }
+      ∷ record { vl = 1; subLink = 0; sampling = false; size = 10; leastSize = 10; period = 12500; jitter = 0 } ∷ [];
+  ports = [];
+  hops = [];
+}
+
+abbrev pub message-on : ℕ → Message
+message-on s = record { released = 0; place = s; stream = s; size = 10 }
+
+abbrev pub frame-on : ℕ → Frame
+frame-on v = record { packet = record { message = message-on v; index = 0; bytes = 84 }; vl = v; born = 0 }
+
+abbrev pub waiting : ℕ → Lane Frame
+waiting v = record { name = v; line = frame-on v ∷ [] }
+
+-- both VLs are of end system 0: any other has none to look at
+abbrev pub looking-at : List (Lane Frame) → Run
+looking-at order = record {
+  releases = λ t. cond (eqb t 0) (record { stream = 0; size = 10 } ∷ record { stream = 1; size = 10 } ∷ []) [];
+  firstSub = λ v. 0;
+  firstVl = λ e. 0;
+  choice = λ t. record {
+    send = λ m. 0;
+    reach = cond (eqb t 0) (message-on 0 ∷ message-on 1 ∷ []) [];
+    flight = λ h g. 0;
+    enter = λ p. [];
+    turns = λ e. cond (eqb 0 e) order [];
+    receive = λ h g. 0;
+  };
+}
+
+abbrev pub turn-kept : Run
+turn-kept = looking-at (waiting 0 ∷ waiting 1 ∷ [])
+
+abbrev pub turn-passed : Run
+turn-passed = looking-at (waiting 1 ∷ waiting 0 ∷ [])
+
+-- what the link sends after tick 0
+pub first-0 : state pair turn-kept 1 .end 0 .link ≡ some (record { job = frame-on 0; ends = 84 })
+unfolding state
+first-0 = refl
+
+pub first-1 : state pair turn-passed 1 .end 0 .link ≡ some (record { job = frame-on 1; ends = 84 })
+unfolding state
+first-1 = refl
 
 -- ---- one message of 10 bytes over one port, 84 ticks on each link: it is complete in tick 168, and not before
 abbrev pub small : Network

@@ -1,9 +1,8 @@
--- Two VLs for one link, by computation: each hands over a packet in tick 0. In turn VL 0 is sent first; that VL 1 is sent first is permitted as well, and is not in turn.
+-- Two VLs for one link (AFewTicks: pair): to take VL 0 first is in turn; to take VL 1 first is permitted as well, and is not in turn.
 -- Assumes nothing.
 use Prim.Native.Nat.{ℕ, zero, suc, _+_, _≤_, _<_}
 use mathlib.Core.Bool.{Bool, true, false, cond}
 use mathlib.Core.List.{List, [], _∷_, List·Memᴰ, List·Memᴰ·head, List·Memᴰ·tail, List·Memᴰ·not-nil, List·Permᴰ, List·Permᴰ·nil, List·Permᴰ·swap, Permᴰ·refl}
-use mathlib.Core.Option.{some}
 use mathlib.Core.Path.{_≡_, refl, sym, ap, subst}
 use native.Mathlib.Nat.{le-refl}
 use native.Mathlib.Omega.{arith}
@@ -12,71 +11,28 @@ use Rattle.base.specs.Round.{up}
 use Rattle.base.specs.Tabulate.{passing, total}
 use Rattle.frame.specs.Frame.{protocolOverhead, lineOf, lineBytes}
 use Rattle.frame.specs.Packets.{fullPacket, packets, cut, packetLines}
-use Rattle.network.specs.Network.{Network}
 use Rattle.network.specs.Views.{hopsOn, vlsOf}
 use Rattle.station.specs.Station.{most}
 use Rattle.machine.specs.Sum.{span}
 use Rattle.machine.specs.Turn.{Lane, add, lanesOf, fromTurn}
 use Rattle.machine.specs.Pool.{landed}
-use Rattle.machine.specs.Messages.{Release, Message, Frame, framed}
-use Rattle.machine.specs.Machine.{Run, released, reaches, endJoined, hands, allSending, state}
+use Rattle.machine.specs.Messages.{Release, Frame, framed}
+use Rattle.machine.specs.Machine.{released, reaches, endJoined, hands, allSending, state}
 use Rattle.machine.specs.Permitted.{streamFlow, releasedBy, Sized, PermittedBelow, InTurn}
+use Rattle.machine.proofs.AFewTicks.{pair, message-on, waiting, turn-kept, turn-passed}
 
--- one end system, and no port
-abbrev pub pair : Network
-pair = record {
-  sendLeast = 0;
-  sendGreatest = 0;
-  receiveLeast = 0;
-  receiveGreatest = 0;
-  systems = record { perByte = 1 } ∷ [];
-  vls = record { system = 0; gap = 12500; subLinks = 1; lmax = 64 } ∷ record { system = 0; gap = 12500; subLinks = 1; lmax = 64 } ∷ [];
-  streams =
-      record { vl = 0; subLink = 0; sampling = false; size = 10; leastSize = 10; period = 12500; jitter = 0 }
-      ∷ record { vl = 1; subLink = 0; sampling = false; size = 10; leastSize = 10; period = 12500; jitter = 0 } ∷ [];
-  ports = [];
-  hops = [];
-}
+-- the one order is in turn, as the VLs stand
+pub is-in-turn : InTurn pair turn-kept 1
+unfolding state passing vlsOf packetLines cut packets up fullPacket protocolOverhead lineBytes lineOf
+is-in-turn zero e h = as-they-stand (eqb 0 e)
+  where
+    as-they-stand : (mine : Bool) → cond mine (waiting 0 ∷ waiting 1 ∷ []) []
+        ≡ add (λ v. framed v 0 (hands pair 0 (turn-kept .choice 0) (state pair turn-kept 0) v .got)) (lanesOf (fromTurn 0 (passing (λ v. mine) 2)))
+    as-they-stand true = refl
+    as-they-stand false = refl
+is-in-turn (suc t) e h = absurd (omega arith)
 
-abbrev pub message-on : ℕ → Message
-message-on s = record { released = 0; place = s; stream = s; size = 10 }
-
-abbrev pub frame-on : ℕ → Frame
-frame-on v = record { packet = record { message = message-on v; index = 0; bytes = 84 }; vl = v; born = 0 }
-
-abbrev pub waiting : ℕ → Lane Frame
-waiting v = record { name = v; line = frame-on v ∷ [] }
-
-abbrev pub looking-at : List (Lane Frame) → Run
-looking-at order = record {
-  releases = λ t. cond (eqb t 0) (record { stream = 0; size = 10 } ∷ record { stream = 1; size = 10 } ∷ []) [];
-  firstSub = λ v. 0;
-  firstVl = λ e. 0;
-  choice = λ t. record {
-    send = λ m. 0;
-    reach = cond (eqb t 0) (message-on 0 ∷ message-on 1 ∷ []) [];
-    flight = λ h g. 0;
-    enter = λ p. [];
-    turns = λ e. cond (eqb 0 e) order [];
-    receive = λ h g. 0;
-  };
-}
-
-abbrev pub turn-kept : Run
-turn-kept = looking-at (waiting 0 ∷ waiting 1 ∷ [])
-
-abbrev pub turn-passed : Run
-turn-passed = looking-at (waiting 1 ∷ waiting 0 ∷ [])
-
--- what the link sends after tick 0
-pub first-0 : state pair turn-kept 1 .end 0 .link ≡ some (record { job = frame-on 0; ends = 84 })
-unfolding state
-first-0 = refl
-
-pub first-1 : state pair turn-passed 1 .end 0 .link ≡ some (record { job = frame-on 1; ends = 84 })
-unfolding state
-first-1 = refl
-
+-- the other is not, and is permitted
 pub not-in-turn : InTurn pair turn-passed 1 → ⊥
 unfolding state passing vlsOf packetLines cut packets up fullPacket protocolOverhead lineBytes lineOf
 not-in-turn h = omega (arith, ap first-name (h 0 0 (omega arith)))
@@ -124,7 +80,6 @@ is-permitted = record {
     enter : (t p : ℕ) → t < 1 → List·Permᴰ (reaches pair t (turn-passed .choice t) (state pair turn-passed t) p) []
     enter t p h = List·Permᴰ·nil
 
-    -- both VLs are of end system 0: any other has none
     either : (mine : Bool) → List·Permᴰ (add (λ v. framed v 0 (hands pair 0 (turn-passed .choice 0) (state pair turn-passed 0) v .got)) (lanesOf (fromTurn 0 (passing (λ v. mine) 2))))
         (cond mine (waiting 1 ∷ waiting 0 ∷ []) [])
     either true = List·Permᴰ·swap refl refl
