@@ -1,6 +1,7 @@
-// Stations built by formula: prints the busy length and the figure of each.
+// Stations built by formula: prints the busy length and the figure of each, by both doors of the station, numbers and records.
 // Those of bench/stations.h that run for seconds are left out.
 mod plan;
+mod records;
 
 use libc::STDOUT_FILENO;
 use plan::Group;
@@ -22,13 +23,17 @@ fn show(a: Answer) {
             io::write_all(STDOUT_FILENO, b"refused 10");
         }
     }
-    io::write_all(STDOUT_FILENO, b"\n");
 }
 
-// The first n flows of a plan.
+// The first n flows of a plan, which has 1,025: what the station says of them as numbers, and as records.
 fn run(n: usize, p: Plan) {
     let list = plan::built(p);
     show(station::station_in(&list, n));
+    io::write_all(STDOUT_FILENO, b" | ");
+    if n <= 1_025 {
+        show(records::told(records::made(&list), n));
+    }
+    io::write_all(STDOUT_FILENO, b"\n");
 }
 
 fn flows(
@@ -117,24 +122,36 @@ fn queue(seed: u64, base: u64, step: u64) {
     });
 }
 
+// The ends of each range, and one past them: 1,023 small flows and one that is at an end.
+fn last(words: &[u8], flow: Group) {
+    io::write_all(STDOUT_FILENO, words);
+    double(1_024, flows(1_023, 12_500, 0, 0, 1, 0, 0), flow);
+}
+
 fn edges() {
     io::write_all(STDOUT_FILENO, b"none ");
     single(0, nothing());
     io::write_all(STDOUT_FILENO, b"one ");
     single(1, flows(1, 12_500, 0, 0, 1_538, 0, 1));
-    let small = flows(1_023, 12_500, 0, 0, 1, 0, 0);
-    io::write_all(STDOUT_FILENO, b"short-period ");
-    double(1_024, small, flows(1, 12_499, 0, 0, 1, 0, 0));
-    io::write_all(STDOUT_FILENO, b"long-jitter ");
-    double(
-        1_024,
-        small,
+    last(b"short-period ", flows(1, 12_499, 0, 0, 1, 0, 0));
+    last(b"longest-period ", flows(1, 125_000_000, 0, 0, 1, 0, 0));
+    last(b"long-period ", flows(1, 125_000_001, 0, 0, 1, 0, 0));
+    last(b"longest-jitter ", flows(1, 125_000_000, 0, 0, 1, 0, 16));
+    last(
+        b"long-jitter ",
         flows(1, 125_000_000, 124_999_999, 0, 1, 0, 16),
     );
-    io::write_all(STDOUT_FILENO, b"no-cost ");
-    double(1_024, small, flows(1, 12_500, 0, 0, 0, 0, 0));
+    last(b"no-cost ", flows(1, 12_500, 0, 0, 0, 0, 0));
+    last(
+        b"greatest-cost ",
+        flows(1, 12_500, 0, 0, 4_000_000_000, 0, 0),
+    );
+    last(b"great-cost ", flows(1, 12_500, 0, 0, 4_000_000_001, 0, 0));
+    let ones = flows(1_025, 12_500, 0, 0, 1, 0, 0);
+    io::write_all(STDOUT_FILENO, b"most ");
+    single(1_024, ones);
     io::write_all(STDOUT_FILENO, b"too-many ");
-    single(1_025, flows(1_024, 12_500, 0, 0, 1, 0, 0));
+    single(1_025, ones);
 }
 
 fn usual() {
