@@ -5,13 +5,14 @@
 
    Answers. Each routine answers for all numbers and all contents of what is lent to it; nothing has to be looked at
    first. An answer carries number, section and row: number 0 is accepted, with section and row 0; any other number is a
-   refusal, by the customer's list, and then every value is 0. Rows are numbered from 0.
+   refusal, by the customer's list, and then every value but test is 0. Rows are numbered from 0.
 
    Lists. A list crosses as a pointer and the count of its elements, which are numbers of 64 bits, or bytes. The pointer
-   is to at least that many elements, is aligned for them, and is not null, even where the count is 0. A list that comes
-   as a pointer to const is only read. A place that is lent to be written overlaps nothing else that is lent, and nobody
-   else reads or writes it before the routine returns. A refusal leaves every lent place all zero; an acceptance leaves
-   zero after what was written. */
+   is to at least that many elements, is aligned for them, and is not null, even where the count is 0. The data() of an
+   empty C++ vector may be null: pass a pointer to any one element of the list's type then, with the count 0. A list that
+   comes as a pointer to const is only read. A place that is lent to be written overlaps nothing else that is lent, and
+   nobody else reads or writes it before the routine returns. A refusal leaves every lent place all zero; an acceptance
+   leaves zero after what was written. */
 #ifndef AVULGJESH_H
 #define AVULGJESH_H
 

@@ -104,29 +104,56 @@ static void stations(void)
     station("station of two numbers", port, 2, 4, 0, 0);
 }
 
-/* ---- the whole case: written from its lists, and unpacked again */
+/* ---- tables: written from their lists, and unpacked again */
 
+struct list {
+    const number *numbers;
+    number count;
+};
+
+struct lists {
+    struct list delays, systems, vls, streams, ports, hops;
+};
+
+#define LIST(numbers) { numbers, COUNT(numbers) }
+
+/* The whole case. */
 static const number delays[] = { 500, 1000, 500, 500 };
 static const number systems[] = { 100 };
 static const number vls[] = { 0, 1, 1, 1518, 0, 2, 1, 516 };
 static const number streams[] = { 0, 0, 0, 2000, 1000, 250000, 0, 1, 0, 1, 469, 10, 500000, 1000 };
 static const number ports[] = { 100, 875, 1250 };
 static const number hops[] = { 0, 0, 0, 1, 0, 0 };
+static const struct lists whole = { LIST(delays), LIST(systems), LIST(vls), LIST(streams), LIST(ports), LIST(hops) };
 
 static const avulgjesh_byte header[] = { 0x01, 0x01, 0x00, 0x20, 0x02, 0x01, 0x00, 0x21, 0xF4, 0x3E, 0x81, 0xF4, 0x1F, 0x40 };
 
-/* One byte more than the table has. */
-static avulgjesh_byte table[60];
+/* The whole case, Lmax of VL 1 out of range. */
+static const number wide_vls[] = { 0, 1, 1, 1518, 0, 2, 1, 1519 };
+static const struct lists wide = { LIST(delays), LIST(systems), LIST(wide_vls), LIST(streams), LIST(ports), LIST(hops) };
 
-static void write_with(const char *question, const number *of_vls, number room, number refusal, number section, number row, number failed, number length)
+/* One to five records of each kind, so that no two counts are the same. */
+static const number five_delays[] = { 1, 2, 3, 4 };
+static const number five_systems[] = { 10 };
+static const number five_vls[] = { 0, 4, 2, 100, 0, 8, 3, 200 };
+static const number five_streams[] = { 0, 1, 0, 53, 20, 250000, 7, 1, 2, 1, 153, 30, 500000, 8, 1, 0, 0, 400, 40, 125000000, 9 };
+static const number five_ports[] = { 100, 11, 12, 10, 13, 14, 100, 15, 16, 10, 17, 18 };
+static const number five_hops[] = { 0, 0, 0, 0, 1, 1, 1, 0, 0, 1, 2, 3, 1, 3, 4 };
+static const struct lists five = { LIST(five_delays), LIST(five_systems), LIST(five_vls), LIST(five_streams), LIST(five_ports), LIST(five_hops) };
+
+/* One byte more than the longer table has. */
+static avulgjesh_byte table[97];
+
+static void write_with(const char *question, const struct lists *of, number room, number refusal, number section, number row, number failed, number length)
 {
     struct avulgjesh_write_answer is;
     number i, left = 0;
 
     for (i = 0; i < room; i++)
         table[i] = 255;
-    is = avulgjesh_write(delays, COUNT(delays), systems, COUNT(systems), of_vls, COUNT(vls), streams, COUNT(streams),
-        ports, COUNT(ports), hops, COUNT(hops), table, room);
+    is = avulgjesh_write(of->delays.numbers, of->delays.count, of->systems.numbers, of->systems.count, of->vls.numbers,
+        of->vls.count, of->streams.numbers, of->streams.count, of->ports.numbers, of->ports.count, of->hops.numbers,
+        of->hops.count, table, room);
     printf("%s:", question);
     hold(is.number, refusal);
     hold(is.section, section);
@@ -142,12 +169,11 @@ static void write_with(const char *question, const number *of_vls, number room, 
 
 static void written(void)
 {
-    static const number wide[] = { 0, 1, 1, 1518, 0, 2, 1, 1519 };
     number i;
 
-    write_with("written with Lmax 1519 on VL 1", wide, COUNT(table), 4, 2, 1, 3, 0);
-    write_with("written to 58 bytes", vls, 58, 11, 0, 0, 0, 0);
-    write_with("the whole case, written", vls, COUNT(table), 0, 0, 0, 0, 59);
+    write_with("written with Lmax 1519 on VL 1", &wide, 60, 4, 2, 1, 3, 0);
+    write_with("written to 58 bytes", &whole, 58, 11, 0, 0, 0, 0);
+    write_with("the whole case, written", &whole, 60, 0, 0, 0, 0, 59);
     printf("its header:");
     for (i = 0; i < COUNT(header); i++) {
         printf(" %02X", table[i]);
@@ -157,46 +183,59 @@ static void written(void)
     printf("\n");
 }
 
-/* A list that was lent: the numbers that it was to get, and zeros. */
-static void left(const char *name, const number *list, number lent, const number *wanted, number count)
+/* A list that was lent with room for one number more: the numbers that it was to get, and zeros. */
+static void left(const char *name, const number *list, struct list wanted, number all)
 {
     number i;
 
     printf("  %s:", name);
-    for (i = 0; i < lent; i++)
-        hold(list[i], i < count ? wanted[i] : 0);
+    for (i = 0; i < wanted.count + 1; i++)
+        hold(list[i], all && i < wanted.count ? wanted.numbers[i] : 0);
     printf("\n");
 }
 
-static void unpack_first(const char *question, number bytes, number refusal)
+static void unpack_first(const char *question, const struct lists *of, number bytes, number refusal, number section, number row, number failed)
 {
-    number d[] = { 9, 9, 9, 9, 9 };
-    number e[] = { 9, 9 };
-    number v[] = { 9, 9, 9, 9, 9, 9, 9, 9, 9 };
-    number s[] = { 9, 9, 9, 9, 9, 9, 9, 9, 9, 9, 9, 9, 9, 9, 9 };
-    number p[] = { 9, 9, 9, 9 };
-    number h[] = { 9, 9, 9, 9, 9, 9, 9 };
+    static number d[5], e[2], v[9], s[22], p[13], h[16];
+    number *lists[] = { d, e, v, s, p, h };
+    number lent[] = { COUNT(d), COUNT(e), COUNT(v), COUNT(s), COUNT(p), COUNT(h) };
     number all = refusal == 0;
-    struct avulgjesh_unpack_answer is = avulgjesh_unpack(table, bytes, d, COUNT(d), e, COUNT(e), v, COUNT(v),
-        s, COUNT(s), p, COUNT(p), h, COUNT(h));
+    struct avulgjesh_unpack_answer is;
+    number i, k;
 
+    for (i = 0; i < COUNT(lists); i++)
+        for (k = 0; k < lent[i]; k++)
+            lists[i][k] = 9;
+    is = avulgjesh_unpack(table, bytes, d, of->delays.count + 1, e, of->systems.count + 1, v, of->vls.count + 1,
+        s, of->streams.count + 1, p, of->ports.count + 1, h, of->hops.count + 1);
     printf("%s:", question);
     hold(is.number, refusal);
-    hold(is.section, 0);
-    hold(is.row, 0);
-    hold(is.test, 0);
-    hold(is.systems, all * 1);
-    hold(is.vls, all * 2);
-    hold(is.streams, all * 2);
-    hold(is.ports, all * 1);
-    hold(is.hops, all * 2);
+    hold(is.section, section);
+    hold(is.row, row);
+    hold(is.test, failed);
+    hold(is.systems, all * of->systems.count);
+    hold(is.vls, all * of->vls.count / 4);
+    hold(is.streams, all * of->streams.count / 7);
+    hold(is.ports, all * of->ports.count / 3);
+    hold(is.hops, all * of->hops.count / 3);
     printf("\n");
-    left("delays", d, COUNT(d), delays, all * COUNT(delays));
-    left("systems", e, COUNT(e), systems, all * COUNT(systems));
-    left("vls", v, COUNT(v), vls, all * COUNT(vls));
-    left("streams", s, COUNT(s), streams, all * COUNT(streams));
-    left("ports", p, COUNT(p), ports, all * COUNT(ports));
-    left("hops", h, COUNT(h), hops, all * COUNT(hops));
+    left("delays", d, of->delays, all);
+    left("systems", e, of->systems, all);
+    left("vls", v, of->vls, all);
+    left("streams", s, of->streams, all);
+    left("ports", p, of->ports, all);
+    left("hops", h, of->hops, all);
+}
+
+/* The fields of an answer are told apart: five counts that differ, and a refusal whose number, section, row and test do. */
+static void told_apart(void)
+{
+    write_with("one to five records of each kind, written", &five, COUNT(table), 0, 0, 0, 0, 96);
+    unpack_first("the same, unpacked", &five, 96, 0, 0, 0, 0);
+    /* the last eleven bits of VL 1, which stands behind the header, an end system and VL 0 */
+    table[14 + 1 + 3 + 1] |= 0x07;
+    table[14 + 1 + 3 + 2] = 0xFF;
+    unpack_first("the same with Lmax 2047 on VL 1", &five, 96, 4, 2, 1, 3);
 }
 
 int main(void)
@@ -204,7 +243,8 @@ int main(void)
     frames();
     stations();
     written();
-    unpack_first("its first 13 bytes, unpacked", 13, 1);
-    unpack_first("the whole case, unpacked", 59, 0);
+    unpack_first("its first 13 bytes, unpacked", &whole, 13, 1, 0, 0, 0);
+    unpack_first("the whole case, unpacked", &whole, 59, 0, 0, 0, 0);
+    told_apart();
     return wrong;
 }
