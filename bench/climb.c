@@ -4,7 +4,6 @@
      climb NAME SEED STEPS [FILE]    prints the flows looked at whenever they are more; FILE gets the last table */
 #define COUNT
 #include "figures.h"
-#undef MOST_BYTES
 #include "tables.h"
 
 static Net best, tried;

@@ -1,5 +1,5 @@
 /* A twin in C of crates/analysis: mux waits, queue and port figures and result rows of a table, and 01's answers 7 to 10.
-   The same loops over the same lists in the same order; flows are gathered in one place and lent, not passed by value. */
+   The same loops over the same lists in the same order; as there, flows are gathered in one place and lent. */
 #ifndef FIGURES_H
 #define FIGURES_H
 

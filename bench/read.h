@@ -1,4 +1,4 @@
-/* A twin in C of crates/bits, crates/layout and the reader of crates/table: a table unpacked bit by bit, 01's answers 1 to 6.
+/* A twin in C of crates/bits, crates/layout, crates/unpacker and crates/reader: a table unpacked bit by bit, 01's answers 1 to 6.
    As there, each row is read twice, to test it and to convert it, and the reader unpacks to lists of its own. */
 #ifndef READ_H
 #define READ_H
