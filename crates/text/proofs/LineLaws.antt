@@ -1,4 +1,5 @@
 -- A line grows by one number at its end, and has at most 21 bytes a number: twenty digits, and a space or the line's end.
+-- So the line of a refusal has at most 71.
 -- Assumes nothing.
 use Prim.Native.Nat.{ℕ, suc, _+_, _-_, _*_, _≤_, _<_}
 use mathlib.Core.Path.{_≡_, refl, sym}
@@ -8,6 +9,7 @@ use native.Mathlib.Numerals.{add-one}
 use lib.ListN.{length, take, drop, getD, length-append}
 use lib.Seq.{take-suc, take-all}
 use Rattle.text.specs.Text.{decimal, spacedFrom, spaced, line, LineFits}
+use Rattle.text.specs.Refusal.{refused, refusal, RefusalFits}
 use Rattle.text.proofs.DecimalLaws.{length-decimal}
 
 spaced-from-more : (ns : List ℕ) (n : ℕ) → spacedFrom (ns ++ (n ∷ [])) ≡ spacedFrom ns ++ (32 ∷ decimal n)
@@ -38,3 +40,7 @@ pub line-fits : LineFits
 unfolding spaced line
 line-fits [] h = absurd (omega arith)
 line-fits (n ∷ ns) h = simp length-append (omega (arith, length-decimal n, length-spaced-from ns))
+
+pub refusal-fits : RefusalFits
+unfolding refused refusal
+refusal-fits a = rw (length-append refused (line (a .number ∷ a .section ∷ a .row ∷ []))) (omega (arith, line-fits (a .number ∷ a .section ∷ a .row ∷ []) (omega arith)))

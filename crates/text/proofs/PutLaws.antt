@@ -103,9 +103,6 @@ module _ (b xs : List ℕ) (r : ℕ) (a : List ℕ) (room : length xs ≤ length
   long : length xs ≡ r
   long = omega (arith, rw whole at (p .place))
 
-  pub puts-within : r ≤ length b
-  puts-within = omega (arith, long)
-
   -- they stand there whole
   pub puts-whole : take r a ≡ xs
   puts-whole = rw (p .holds, whole) (take-at xs (drop (0 + length xs) b) r long)

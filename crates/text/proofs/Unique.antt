@@ -10,6 +10,8 @@ use Rattle.text.proofs.put_number.Kinds as number-kinds
 use Rattle.text.proofs.put_number.Reads as number-reads
 use Rattle.text.proofs.put_line.Kinds as line-kinds
 use Rattle.text.proofs.put_line.Reads as line-reads
+use Rattle.text.proofs.put_refusal.Kinds as refusal-kinds
+use Rattle.text.proofs.put_refusal.Reads as refusal-reads
 
 pub byte-settles : Settles 1 byte-kinds.ps byte-kinds.r byte-reads.Post
 byte-settles κs a x y ws vs p q = (p .place ∙ sym (q .place), (λ i. ((p .holds ∙ sym (q .holds)) i, (tt, (tt, tt)))))
@@ -22,3 +24,6 @@ number-settles κs a x y ws vs p q = (p .place ∙ sym (q .place), (λ i. ((p .h
 
 pub line-settles : Settles 2 line-kinds.ps line-kinds.r line-reads.Post
 line-settles κs a x y ws vs p q = (p .place ∙ sym (q .place), (λ i. ((p .holds ∙ sym (q .holds)) i, (tt, (tt, tt)))))
+
+pub refusal-settles : Settles 1 refusal-kinds.ps refusal-kinds.r refusal-reads.Post
+refusal-settles κs a x y ws vs p q = (p .place ∙ sym (q .place), (λ i. ((p .holds ∙ sym (q .holds)) i, (tt, (tt, tt)))))

@@ -1,7 +1,9 @@
-// Puts bytes, numbers in decimal and lines of numbers at a place of a text, and answers the place behind them.
+// Puts bytes, numbers in decimal, lines of numbers and the line of a refusal at a place of a text, and answers the place behind them.
 // Every routine answers for all input: what does not fit is left out.
 ghost use mathlib.Core.List.{[], _∷_};
 ghost use Rattle.text.specs.Text.{decimal, spacedFrom, spaced, line, Puts};
+ghost use Rattle.text.specs.Refusal.{refusal};
+use table::Answer;
 
 pub fn put_byte(text: &mut [u8], at: usize, byte: u8) -> usize
     ensures { λ r. ⌜ Puts (now (text .entry)) at (byte ∷ []) r (now (text .exit)) ⌝ }
@@ -68,4 +70,13 @@ pub fn put_line(text: &mut [u8], at: usize, numbers: &[u64]) -> usize
 {
     let end = put_spaced(text, at, numbers);
     put_byte(text, end, b'\n')
+}
+
+// The line of a refusal: its numbers are those of the answer.
+pub fn put_refusal(text: &mut [u8], at: usize, answer: Answer) -> usize
+    ensures { λ r. ⌜ Puts (now (text .entry)) at (refusal answer) r (now (text .exit)) ⌝ }
+{
+    let numbers = [answer.number, answer.section, answer.row];
+    let behind = put_bytes(text, at, b"refused ");
+    put_line(text, behind, &numbers)
 }

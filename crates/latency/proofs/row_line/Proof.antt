@@ -16,7 +16,7 @@ returns c =
     let row = take 6 (drop at (start .args .numbers .now)) in
     let six : at + 6 - at ≡ 6 = omega arith in
     let long : length row ≡ 6 = omega (arith, length-take 6 (drop at (start .args .numbers .now)), length-drop at (start .args .numbers .now), start .pre .0) in
-    line-stands _ row _ _ (start .pre .1) (omega arith) (omega arith) (rw six at (c .put-line .ensures))
+    line-stands _ _ _ (start .pre .1) row long (rw six at (c .put-line .ensures))
 
 pub row-line-spec : {M : Type 1} → statement M
 row-line-spec =

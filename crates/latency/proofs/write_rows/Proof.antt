@@ -1,9 +1,9 @@
--- `latency::rows` is safe and ends: it takes one row a turn.
+-- `latency::write_rows` is safe and ends: it takes one row a turn.
 -- Assumes nothing.
 use borrow.Author.Needs.{needs}
 use Prim.Native.Nat.{_-_, _≤_}
-use Rattle.latency.proofs.rows.Statement.{statement}
-use Rattle.latency.proofs.rows.Tie as tie
+use Rattle.latency.proofs.write_rows.Statement.{statement}
+use Rattle.latency.proofs.write_rows.Tie as tie
 
 abbrev Inv-loop : tie.InvT-loop
 Inv-loop numbers n i₀ i = i ≤ n
@@ -11,8 +11,8 @@ Inv-loop numbers n i₀ i = i ≤ n
 abbrev μ-loop : tie.MeasureT-loop
 μ-loop numbers n i₀ i = n - i
 
-pub rows-spec : {M : Type 1} → statement M
-rows-spec =
+pub write-rows-spec : {M : Type 1} → statement M
+write-rows-spec =
     tie.close
     (tie.spec
     Inv-loop
@@ -20,7 +20,9 @@ rows-spec =
     (λ c. search needs)
     (λ c κs. search needs)
     (λ c. search needs)
+    (λ c. search needs)
     (λ c κs. search needs)
+    (λ c. search needs)
     (λ c. search needs)
     (λ c. search needs)
     (λ c. search needs)
