@@ -1,9 +1,10 @@
 #!/bin/sh
-# Tests everything: docs/CLAIMS.md names what is there; rt ci proves every crate from nothing, tries the must-fail edits, runs the programs and compares; the independent
-# implementation still gives the committed answers; the suppliers' archives, from the crates just proved, link and run.
-# The last line is rt ci's own, 'N passed, 0 failed', and stands there only if all of it passed.
+# Tests everything: docs/CLAIMS.md names what is there; rt ci proves every crate from nothing, tries the must-fail edits, runs the programs
+# and compares; then the independent implementation still gives the committed answers, the suppliers' archives link and run, and the front
+# command does what it says. Where all of it passed, the last line is rt ci's last line again, 'N passed, 0 failed'.
 set -eu
-cd "$(dirname "$0")"
+unset CDPATH
+cd -- "$(dirname -- "$0")"
 export LC_ALL=C PATH="$PATH:${HOME:-/root}/.cargo/bin"
 # Three checks at a time also on two cores: crates and edits go in batches, and the shorter ones of a batch leave a core idle.
 export RT_JOBS="${RT_JOBS:-3}"
@@ -13,10 +14,18 @@ if ! command -v cargo >/dev/null; then
 fi
 
 tools/claims
-said=$(mktemp -d)
-trap 'rm -rf "$said"' EXIT
-{ rt ci 2>&1 && echo proved >"$said/status"; } | tee "$said/output"
-[ -f "$said/status" ]
+
+# Shown as it goes and kept; a pipe's status is that of its end, so rt's own goes to a file. rt removes target, so both are elsewhere.
+kept=$(mktemp -d)
+trap 'rm -rf -- "$kept"' EXIT
+noted=$(./avulgjesh stamp)
+{
+    status=0
+    rt ci 2>&1 || status=$?
+    echo "$status" >"$kept/status"
+} | tee "$kept/said"
+[ "$(cat "$kept/status")" = 0 ] || exit 1
+./avulgjesh stamp "$noted"
 
 export CARGO_TARGET_DIR="$PWD/target/held/build"
 cargo build --release --offline --quiet --manifest-path tests/held/Cargo.toml
@@ -27,5 +36,6 @@ held=$CARGO_TARGET_DIR/release/held
 "$held" answers <crates/items/stdin | cmp - crates/items/stdout
 examples/check "$held" rows
 examples/supplier/run
+tests/command/run
 
-tail -n 1 "$said/output"
+tail -n 1 "$kept/said"

@@ -1,0 +1,290 @@
+# Tests of what the command reads, answers and writes, over the stamped program: read by ./run.
+# Rows of the table of defects that each repeats stand in its name.
+
+test_one_table_gives_its_lines_alone() {
+    gives 0 latency "$examples/whole-case.tbl"
+    same out "$examples/whole-case.rows"
+    quiet
+}
+
+test_every_example_gives_its_rows_and_status() {
+    for table in "$examples"/*.tbl; do
+        case $(cat "${table%.tbl}.rows") in refused*) wanted=1 ;; *) wanted=0 ;; esac
+        gives "$wanted" latency "$table"
+        same out "${table%.tbl}.rows" "the answer of ${table##*/}"
+    done
+}
+
+test_program_gives_every_example_its_rows() {
+    "$examples/check" "$root/tools/built" latency >said || no "$(head -n 1 said)"
+}
+
+test_several_tables_each_follow_their_line() {
+    gives 1 latency "$examples/whole-case.tbl" "$examples/refused-9.tbl"
+    for name in whole-case refused-9; do
+        printf 'table %s %s\n' "$examples/$name.tbl" "$(sha256sum <"$examples/$name.tbl" | cut -d ' ' -f 1)"
+        cat "$examples/$name.rows"
+    done >wanted
+    same out wanted
+}
+
+test_of_several_tables_the_highest_status() {
+    gives 2 latency "$examples/refused-9.tbl" nosuch.tbl "$examples/whole-case.tbl"
+    [ "$(grep -c '^table ' out)" -eq 2 ] || no "the tables that can be read are not answered"
+    gives 1 latency "$examples/refused-9.tbl" "$examples/whole-case.tbl"
+    gives 0 latency "$examples/whole-case.tbl" "$examples/empty.tbl"
+}
+
+# ---- output that cannot be written
+test_full_disk_is_said() {
+    status=0
+    "$front" latency "$examples/whole-case.tbl" >/dev/full 2>err || status=$?
+    [ "$status" -eq 2 ] || no "status $status, not 2"
+    sentence 'standard output cannot be written'
+}
+
+test_closed_output_is_said() {
+    status=0
+    "$front" latency "$examples/whole-case.tbl" >&- 2>err || status=$?
+    [ "$status" -eq 2 ] || no "status $status, not 2"
+    sentence 'standard output is closed'
+}
+
+test_file_limit_gives_no_cut_row() {
+    full
+    status=0
+    (trap '' XFSZ && ulimit -f 9 && exec "$front" latency full.tbl) >out 2>err || status=$?
+    [ "$status" -eq 3 ] || no "status $status, not 3"
+    silent
+    sentence '^avulgjesh: '
+}
+
+test_program_says_a_write_that_fails() {
+    full
+    "$root/tools/built" latency <full.tbl >/dev/full 2>err
+    printf 'latency: the answer could not be written whole\n' >wanted
+    same err wanted
+    "$root/tools/built" latency <"$examples/refused-9.tbl" >/dev/full 2>err
+    same err wanted
+}
+
+# A pipe that does not wait takes some rows and then no more: what it took is a beginning of the answer, with no row left out.
+test_program_stops_at_the_first_write_that_fails() {
+    full
+    mkfifo pipe
+    exec 4<>pipe
+    head -c 45000 /dev/zero >&4
+    dd oflag=nonblock count=0 >&4 2>/dev/null
+    "$root/tools/built" latency <full.tbl >&4 2>err
+    printf 'latency: the answer could not be written whole\n' >wanted
+    same err wanted
+    dd iflag=nonblock bs=100000 <&4 2>/dev/null | tail -c +45001 >some
+    "$root/tools/built" latency <full.tbl >all
+    [ -s some ] || no "the pipe took nothing"
+    head -c "$(wc -c <some)" all >beginning
+    same some beginning
+    [ "$(wc -c <some)" -lt "$(wc -c <all)" ] || no "the pipe took all"
+}
+
+# ---- input: taken once, and a failed read is no table
+test_pipe_gives_what_the_file_gives() {
+    cat "$examples/whole-case.tbl" | "$front" latency - >out || no "from -: status $?"
+    same out "$examples/whole-case.rows" "the answer from -"
+    cat "$examples/whole-case.tbl" | "$front" latency /dev/stdin >out || no "from /dev/stdin: status $?"
+    same out "$examples/whole-case.rows" "the answer from /dev/stdin"
+    mkfifo pipe
+    cat "$examples/whole-case.tbl" >pipe &
+    gives 0 latency pipe
+    same out "$examples/whole-case.rows" "the answer from a pipe with a name"
+}
+
+test_slow_pipe_is_read_to_its_end() {
+    { head -c 20 "$examples/whole-case.tbl"; sleep 1; tail -c +21 "$examples/whole-case.tbl"; } | "$front" latency - >out || no "status $?"
+    same out "$examples/whole-case.rows"
+}
+
+test_folder_is_no_table() {
+    mkdir folder
+    gives 2 latency folder
+    silent
+    sentence 'folder: that is a folder'
+}
+
+test_closed_input_is_no_table() {
+    for name in - /dev/stdin; do
+        status=0
+        "$front" latency "$name" <&- >out 2>err || status=$?
+        [ "$status" -eq 2 ] || no "status $status, not 2, of $name"
+        silent
+        [ -s err ] || no "nothing is said of $name"
+    done
+}
+
+test_read_error_is_no_table() {
+    mkfifo pipe
+    exec 4<>pipe
+    dd iflag=nonblock count=0 <&4 2>/dev/null
+    status=0
+    "$front" latency - <&4 >out 2>err || status=$?
+    [ "$status" -eq 2 ] || no "status $status, not 2"
+    silent
+    sentence '-: cannot be read: Resource temporarily unavailable'
+}
+
+test_program_says_a_read_that_fails() {
+    mkdir folder
+    printf 'latency: the table could not be read\n' >wanted
+    "$root/tools/built" latency <folder >out 2>err
+    silent
+    same err wanted
+    "$root/tools/built" latency <&- >out 2>err
+    silent
+    same err wanted
+}
+
+# A pipe that does not wait holds a good table, with more to come: what has come is not the whole.
+test_good_beginning_of_a_failed_read_is_no_table() {
+    mkfifo pipe
+    exec 4<>pipe
+    cat "$examples/whole-case.tbl" >&4
+    dd iflag=nonblock count=0 <&4 2>/dev/null
+    "$root/tools/built" latency <&4 >out 2>err
+    silent
+    printf 'latency: the table could not be read\n' >wanted
+    same err wanted
+    cat "$examples/whole-case.tbl" >&4
+    status=0
+    "$front" latency - <&4 >out 2>err || status=$?
+    [ "$status" -eq 2 ] || no "status $status, not 2"
+    silent
+}
+
+test_missing_file_is_said() {
+    gives 2 latency nosuch.tbl
+    silent
+    sentence 'nosuch.tbl: there is no such file'
+}
+
+test_more_than_a_megabyte_is_said() {
+    head -c 1000001 /dev/zero >large
+    gives 2 latency large
+    silent
+    sentence 'more than 1000000 bytes'
+    head -c 1000000 /dev/zero >large
+    gives 1 latency large
+    head -c 12110 /dev/zero >large
+    gives 1 latency large
+}
+
+test_standard_input_is_named_once() {
+    status=0
+    "$front" latency - - <"$examples/whole-case.tbl" >out 2>err || status=$?
+    [ "$status" -eq 2 ] || no "status $status, not 2"
+    silent
+}
+
+test_no_private_folder_is_ours() {
+    TMPDIR=$PWD/nosuch gives 3 latency "$examples/whole-case.tbl"
+    silent
+}
+
+# ---- names
+test_name_with_a_backslash_keeps_its_hash() {
+    cp "$examples/whole-case.tbl" 'a\17b.tbl'
+    gives 0 latency 'a\17b.tbl' "$examples/empty.tbl"
+    has out 'table a\13417b.tbl 17cd97046797ebf38e56268142dee36ac6f7790fc4ff85eccca3ccbb4fc6d306'
+    gives 0 latency 'a\17b.tbl'
+    same out "$examples/whole-case.rows"
+}
+
+test_names_with_spaces_dashes_and_odd_bytes() {
+    mkdir 'a folder'
+    line=$(printf 'two\nlines.tbl')
+    for name in 'a folder/a table.tbl' -t.tbl -- --help "$line" 'a$b"c`d.tbl' '*.tbl' 'a=b.tbl' 'x;y.tbl' '%s.tbl'; do
+        cp -- "$examples/whole-case.tbl" "./$name"
+        gives 0 latency -- "$name"
+        same out "$examples/whole-case.rows" "the answer of $name"
+    done
+    gives 0 latency -t.tbl
+    gives 0 latency -- "$line" -t.tbl
+    has out 'table two\012lines.tbl 17cd97046797ebf38e56268142dee36ac6f7790fc4ff85eccca3ccbb4fc6d306'
+    has out 'table -t.tbl 17cd97046797ebf38e56268142dee36ac6f7790fc4ff85eccca3ccbb4fc6d306'
+}
+
+test_symbolic_link_from_another_folder() {
+    mkdir bin far
+    ln -s "$front" far/first
+    ln -s ../far/first bin/avulgjesh
+    cp "$examples/whole-case.tbl" t.tbl
+    (PATH=$PWD/bin:$PATH && cd bin && avulgjesh latency ../t.tbl) >out || no "status $?"
+    same out "$examples/whole-case.rows"
+    [ "$(ls bin far | tr '\n' ' ')" = 'bin: avulgjesh  far: first ' ] || no "it left files beside the link"
+}
+
+test_folder_of_cdpath_is_not_entered() {
+    mkdir -p elsewhere/here elsewhere/tools here
+    ln -s "$front" here/avulgjesh
+    CDPATH=$PWD/elsewhere sh here/avulgjesh latency "$examples/whole-case.tbl" >out || no "status $?"
+    same out "$examples/whole-case.rows"
+    (cd -- "$root/.." && CDPATH=$room:/ sh "${root##*/}/avulgjesh" latency "$examples/whole-case.tbl") >out || no "by its folder: status $?"
+    same out "$examples/whole-case.rows"
+    (cd -- "$root" && sh avulgjesh latency examples/whole-case.tbl) >out || no "from its own folder: status $?"
+    same out "$examples/whole-case.rows"
+}
+
+# ---- help and usage
+test_help_is_help() {
+    for word in help --help -h; do
+        gives 0 "$word"
+        grep -q '^usage: ' out || no "no usage for $word"
+        quiet
+    done
+    gives 0 latency --help
+    grep -q '^usage: ' out || no "no usage"
+}
+
+test_wrong_words_are_usage() {
+    gives 2
+    silent
+    sentence '^usage: '
+    gives 2 latencies
+    silent
+    gives 2 latency
+    gives 2 verify
+    gives 2 record
+    gives 2 record a b
+    silent
+    gives 2 pack
+    gives 2 pack a b
+}
+
+test_version_names_the_stamp() {
+    gives 0 version
+    tail -n 4 out >stamp
+    same stamp "$root/target/bin/latency.stamp"
+    gives 0 --version
+    tail -n 4 out >stamp
+    same stamp "$root/target/bin/latency.stamp"
+}
+
+# ---- pack
+test_pack_packs() {
+    gives 0 pack "$examples/whole-case.txt"
+    same out "$examples/whole-case.tbl"
+    cp "$examples/whole-case.txt" 'a=b.txt'
+    gives 0 pack 'a=b.txt'
+    same out "$examples/whole-case.tbl"
+    "$front" pack - <"$examples/whole-case.txt" | cmp -s - "$examples/whole-case.tbl" || no "not from -"
+}
+
+test_pack_says_what_is_wrong() {
+    printf 'delays 1 2 3\n' >bad.txt
+    gives 1 pack bad.txt
+    silent
+    sentence 'line 1'
+    gives 2 pack nosuch.txt
+    silent
+    status=0
+    "$front" pack "$examples/whole-case.txt" >/dev/full 2>err || status=$?
+    [ "$status" -eq 2 ] || no "status $status, not 2, on a full disk"
+}
