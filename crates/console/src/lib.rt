@@ -1,6 +1,8 @@
 // How a program reads, writes and gives up: a read that fails is told from the end of the input, and every write says whether it went out whole.
 // Every public routine answers for all input. What is read and written no contract can say: C's read and write are assumed, and only their answers.
+ghost use mathlib.Core.Bool.{false};
 ghost use mathlib.Core.Path.{_≡_};
+ghost use Prim.Native.Nat.{_<_};
 ghost use lib.ListN.{length};
 ghost use Rattle.console.specs.Told.{told, Within, Counted};
 use libc::STDERR_FILENO;
@@ -87,7 +89,9 @@ pub fn read_argument(i: usize, buf: &mut [u8]) -> Input
 }
 
 // Writes the first bytes of a text to standard output, and answers whether all of them went out. Of a text that has fewer none does.
-pub fn write_first(text: &[u8], used: usize) -> bool {
+pub fn write_first(text: &[u8], used: usize) -> bool
+    ensures { λ r. ⌜ (length (now (text .entry)) < used → r ≡ false) ⌝ }
+{
     if text.len() < used {
         return false;
     }
