@@ -16,8 +16,11 @@ unfoldable pub mostFlows : ℕ
 mostFlows = 1024
 
 -- ".. a period outside 12,500 to 125,000,000, a jitter above 2,000,000,000 or a cost outside 1 to 4,000,000,000"
+abbrev pub longestPeriod : ℕ
+longestPeriod = 125000000
+
 unfoldable pub inRange : Flow → Bool
-inRange f = within 12500 125000000 (f .period) && (leb (f .jitter) 2000000000 && within 1 4000000000 (f .cost))
+inRange f = within 12500 longestPeriod (f .period) && (leb (f .jitter) 2000000000 && within 1 4000000000 (f .cost))
 
 unfoldable pub allInRange : List Flow → Bool
 allInRange [] = true
