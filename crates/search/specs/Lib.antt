@@ -1,0 +1,5 @@
+pub mod Flows
+pub mod Spans
+pub mod Pass
+pub mod Turn
+pub mod Searching
