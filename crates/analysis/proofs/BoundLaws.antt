@@ -26,8 +26,7 @@ use Rattle.network.specs.References.{routeLonger}
 use Rattle.network.specs.Ranges.{Ranges, VlRange, SpeedRange}
 use Rattle.network.proofs.PortLaws.{on-port, no-more-than-hops}
 use Rattle.network.proofs.RouteLaws.{child-longer}
-use Rattle.station.specs.declared.Flow.{Flow}
-use Rattle.station.specs.Station.{limit, busyLength, figure}
+use Rattle.station.specs.Station.{Flow, limit, busyLength, figure}
 use Rattle.station.specs.Offered.{mostFlows, allInRange, offered}
 use Rattle.station.specs.Facts.{Periodic}
 use Rattle.station.proofs.FlowLaws.{InRange, and-true, periodic}

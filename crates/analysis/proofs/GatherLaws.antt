@@ -9,7 +9,7 @@ use native.Mathlib.Omega.{arith}
 use lib.ListN.{length}
 use Rattle.base.specs.Tabulate.{tabulate, passing}
 use Rattle.base.proofs.TabulateLaws.{passing-hit, passing-miss}
-use Rattle.station.specs.declared.Flow.{Flow}
+use Rattle.station.specs.Station.{Flow}
 use Rattle.station.specs.Flat.{flowsIn}
 
 -- of the first n rows those that pass are gathered, `count` of them

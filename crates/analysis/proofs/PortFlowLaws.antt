@@ -14,7 +14,7 @@ use lib.ListN.{length, getD, set, length-set}
 use lib.Seq.{getD-set-same, getD-set-other}
 use Rattle.network.specs.Network.{Network, vlAt, hopAt}
 use Rattle.network.specs.Views.{hopsOn}
-use Rattle.station.specs.declared.Flow.{Flow}
+use Rattle.station.specs.Station.{Flow}
 use Rattle.station.specs.Flat.{flowsIn}
 use Rattle.rows.specs.Links.{hopMost}
 use Rattle.rows.specs.Ports.{hopFlow, portFlows, jitterOf}

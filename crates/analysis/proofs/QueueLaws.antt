@@ -16,7 +16,7 @@ use Rattle.base.proofs.TestLaws.{some-is, none-is}
 use Rattle.frame.specs.Packets.{packets}
 use Rattle.network.specs.Network.{Network, vlAt, streamAt}
 use Rattle.network.specs.Ranges.{Ranges}
-use Rattle.station.specs.declared.Flow.{Flow}
+use Rattle.station.specs.Station.{Flow}
 use Rattle.station.specs.Flat.{flowsIn}
 use Rattle.network.specs.Views.{streamsOn}
 use Rattle.rows.specs.Queues.{queueFlow, queueFlows, queueLength, queueFigure}

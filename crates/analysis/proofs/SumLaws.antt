@@ -11,7 +11,7 @@ use borrow.Author.Tests.{le-leb}
 use Rattle.base.specs.Tabulate.{passing, total}
 use Rattle.base.proofs.TabulateLaws.{passing-hit, passing-miss, passing-member, length-passing}
 use Rattle.bits.proofs.RecordLaws.{total-append}
-use Rattle.station.specs.declared.Flow.{Flow}
+use Rattle.station.specs.Station.{Flow}
 use Rattle.station.specs.Offered.{inRange, allInRange}
 use Rattle.station.specs.Facts.{Periodic}
 use Rattle.station.proofs.FlowLaws.{InRange, all-but-cost}

@@ -6,8 +6,7 @@ use mathlib.Core.List.{List}
 use mathlib.Core.Path.{_≡_}
 use lib.ListN.{length}
 use Rattle.base.specs.Tests.{isSome, numberOr0}
-use Rattle.station.specs.declared.Flow.{Flow}
-use Rattle.station.specs.Station.{busyLength, figure}
+use Rattle.station.specs.Station.{Flow, busyLength, figure}
 use Rattle.station.specs.Flat.{flowsIn}
 use Rattle.analysis.specs.declared.flows.Outcome.{Outcome}
 

@@ -13,8 +13,7 @@ use Rattle.base.specs.Tabulate.{total}
 use Rattle.frame.specs.Packets.{packets}
 use Rattle.network.specs.Network.{Network, vlAt, streamAt}
 use Rattle.rows.specs.Queues.{queueFlow}
-use Rattle.station.specs.declared.Flow.{Flow}
-use Rattle.station.specs.Station.{most}
+use Rattle.station.specs.Station.{Flow, most}
 use Rattle.machine.specs.Sum.{span, count, weigh, tally}
 use Rattle.machine.specs.Lists.{chosen}
 use Rattle.machine.specs.Pool.{Due, setOut, landed}

@@ -19,9 +19,8 @@ use Rattle.network.proofs.PortLaws.{on-port, member-on-port}
 use Rattle.rows.specs.Links.{hopMost, hopLine}
 use Rattle.rows.specs.Ports.{hopFlow, portFlows, portLength, portFigure, jitterOf}
 use Rattle.rows.specs.Queues.{queueFlow, queueFlows, queueLength}
-use Rattle.station.specs.declared.Flow.{Flow}
 use Rattle.station.specs.Facts.{Periodic}
-use Rattle.station.specs.Station.{most, brought, busyLength, figure}
+use Rattle.station.specs.Station.{Flow, most, brought, busyLength, figure}
 use Rattle.station.proofs.Facts.{covers-every-span}
 use Rattle.machine.specs.Sound.{Sound, Has, Busy}
 use Rattle.machine.proofs.Select.{was-passing}

@@ -17,8 +17,7 @@ use Rattle.network.specs.Views.{hopsOn, leaf}
 use Rattle.network.proofs.PortLaws.{on-port}
 use Rattle.rows.specs.Links.{hopMost, hopLine}
 use Rattle.rows.specs.Ports.{hopFlow, portFlows, jitterOf}
-use Rattle.station.specs.declared.Flow.{Flow}
-use Rattle.station.specs.Station.{most, brought}
+use Rattle.station.specs.Station.{Flow, most, brought}
 use Rattle.machine.specs.Sum.{span, count, weigh}
 use Rattle.machine.specs.Lists.{chosen}
 use Rattle.machine.specs.Fifo.{Fifo, still}

@@ -18,8 +18,7 @@ use Rattle.frame.proofs.PacketLaws.{packet-lines-between}
 use Rattle.network.specs.Network.{Network, vlAt, streamAt}
 use Rattle.rows.specs.Queues.{queueFlow, queueFlows}
 use Rattle.network.specs.Views.{streamsOn}
-use Rattle.station.specs.declared.Flow.{Flow}
-use Rattle.station.specs.Station.{brought}
+use Rattle.station.specs.Station.{Flow, brought}
 use Rattle.machine.specs.Sum.{span, count, weigh}
 use Rattle.machine.specs.Lists.{chosen}
 use Rattle.machine.specs.Turn.{fromTurn}

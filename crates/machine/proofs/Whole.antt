@@ -25,9 +25,10 @@ use Rattle.rows.specs.Links.{sendMost, sendLine, sendSpread, sendSum, muxWait, 
 use Rattle.rows.specs.Ports.{hopFlow, portFlows, portLength, portFigure, rootJitter, jitterBelow, jitterOf, figureOf}
 use Rattle.rows.specs.Queues.{queueFlow, queueFlows, queueLength, queueFigure}
 use Rattle.rows.specs.Rows.{queueOf, worstParts, worst, bestParts, best, rowJitter, rowOf, rowsTo, rowsOf}
-use Rattle.station.specs.declared.Flow.{Flow}
-use Rattle.station.specs.Searching.{edge, lastArrival, improved}
-use Rattle.station.specs.Station.{most, brought, limit, busyLength, figure}
+use Rattle.search.specs.Pass.{lastOf}
+use Rattle.search.specs.Turn.{improved}
+use Rattle.station.specs.Searching.{lastIn}
+use Rattle.station.specs.Station.{Flow, most, brought, limit, busyLength, figure}
 use Rattle.station.specs.Offered.{inRange, allInRange}
 use Rattle.station.proofs.Computed.{climb, descend, computed-length, computed-figure}
 use Rattle.machine.specs.Sound.{Sound, Has, Busy}
@@ -95,7 +96,7 @@ unfolding climb allInRange inRange brought most limit
 lengths = (computed-length flow-0 refl 9 25000 refl, computed-length flow-1 refl 9 25000 refl, computed-length flows refl 9 2074 refl)
 
 figures : (figure flow-0 25000 ≡ 25000) × (figure flow-1 25000 ≡ 25000) × (figure flows 2074 ≡ 2074)
-unfolding descend allInRange inRange brought most lastArrival improved edge
+unfolding descend allInRange inRange brought most lastIn improved lastOf
 figures = (
   computed-figure flow-0 refl 9 24999 (record { figure = 25000; span = 0 }) refl,
   computed-figure flow-1 refl 9 24999 (record { figure = 25000; span = 0 }) refl,

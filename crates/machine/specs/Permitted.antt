@@ -8,8 +8,7 @@ use lib.Dec.{eqb}
 use lib.ListN.{length}
 use Rattle.network.specs.Network.{Network, streamAt, portAt, hopAt}
 use Rattle.network.specs.Views.{leaf}
-use Rattle.station.specs.declared.Flow.{Flow}
-use Rattle.station.specs.Station.{most}
+use Rattle.station.specs.Station.{Flow, most}
 use Rattle.machine.specs.Sum.{span, count}
 use Rattle.machine.specs.Pool.{landed}
 use Rattle.machine.specs.Messages.{Release, Message, Frame}

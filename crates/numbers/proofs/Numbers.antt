@@ -22,11 +22,12 @@ use Rattle.rows.specs.Links.{sendMost, sendSum, hopMost}
 use Rattle.rows.specs.Queues.{queueFlow, queueFlows, queueLength, queueFigure}
 use Rattle.rows.specs.Ports.{hopFlow, portFlows, portLength, portFigure}
 use Rattle.rows.specs.Refusals.{sendsLate, lateSystem, endlessSubLink, endlessVl}
-use Rattle.station.specs.declared.Flow.{Flow}
+use Rattle.search.specs.Pass.{lastOf}
+use Rattle.search.specs.Turn.{improved}
 use Rattle.station.specs.Answer.{said}
-use Rattle.station.specs.Station.{most, brought, limit, busyLength, figure}
+use Rattle.station.specs.Station.{Flow, most, brought, limit, busyLength, figure}
 use Rattle.station.specs.Offered.{mostFlows, inRange, allInRange, offered, stationSays}
-use Rattle.station.specs.Searching.{edge, lastArrival, improved}
+use Rattle.station.specs.Searching.{lastIn}
 use Rattle.station.proofs.AnswerLaws.{served-was, endless-was}
 use Rattle.station.proofs.Computed.{climb, descend, computed-served, computed-none}
 use Rattle.station.proofs.Facts.{no-flows}
@@ -67,7 +68,7 @@ abbrev flow : ℕ → ℕ → ℕ → Flow
 flow t j c = record { period = t; jitter = j; cost = c }
 
 pub numbers-hold : Numbers-hold
-unfolding numbers ruled up lineOf protocolOverhead leastFrame greatestFrame fullPacket packets greatestMessage packetsOf offered most brought limit mostFlows inRange allInRange edge lastArrival improved climb descend queueFlows queueFlow streamsOn passing portFlows hopFlow hopsOn hopMost largestLine lineOverhead perByte tabulate sendSays unless lateSystem leastFrom sendsLate sendsInTime sendBase sendLimit sendSum sendMost vlsOf total
+unfolding numbers ruled up lineOf protocolOverhead leastFrame greatestFrame fullPacket packets greatestMessage packetsOf offered most brought limit mostFlows inRange allInRange lastOf lastIn improved climb descend queueFlows queueFlow streamsOn passing portFlows hopFlow hopsOn hopMost largestLine lineOverhead perByte tabulate sendSays unless lateSystem leastFrom sendsLate sendsInTime sendBase sendLimit sendSum sendMost vlsOf total
 numbers-hold = rw (
   -- 3
   queue-served (flow 50000 0 37500 ∷ []) refl (computed-served _ refl refl 9 37499 (record { figure = 37500; span = 0 }) refl refl) 1 (stream 3 50000 0 ∷ []) (omega arith) refl refl,

@@ -17,8 +17,7 @@ use Rattle.base.proofs.TabulateLaws.{passing-member}
 use Rattle.base.proofs.TestLaws.{some-is, none-is, is-some-was, is-none-was}
 use Rattle.network.specs.Network.{Network, vlAt, streamAt, hopAt}
 use Rattle.network.specs.ReferenceFacts.{References}
-use Rattle.station.specs.declared.Flow.{Flow}
-use Rattle.station.specs.Station.{load, limit, busyLength}
+use Rattle.station.specs.Station.{Flow, load, limit, busyLength}
 use Rattle.station.proofs.Facts.{no-busy-length-is}
 use Rattle.table.specs.declared.Answer.{Answer}
 use Rattle.table.specs.Answers.{answer, accepted, firstGiven}

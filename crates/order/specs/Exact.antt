@@ -9,8 +9,7 @@ use mathlib.Core.Option.{none, some}
 use mathlib.Core.Path.{_≡_}
 use lib.ListN.{length}
 use Rattle.network.specs.Network.{Network, vlAt, streamAt, hopAt}
-use Rattle.station.specs.declared.Flow.{Flow}
-use Rattle.station.specs.Station.{load}
+use Rattle.station.specs.Station.{Flow, load}
 use Rattle.table.specs.Answers.{answer, accepted}
 use Rattle.table.specs.Read.{networkIn, readAnswer}
 use Rattle.rows.specs.Queues.{queueFlows}

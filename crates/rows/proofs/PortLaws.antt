@@ -12,8 +12,7 @@ use Rattle.network.specs.Network.{Network, vlAt, hopAt}
 use Rattle.network.specs.Views.{hopsOn}
 use Rattle.network.specs.ReferenceFacts.{References}
 use Rattle.network.proofs.PortLaws.{on-port}
-use Rattle.station.specs.declared.Flow.{Flow}
-use Rattle.station.specs.Station.{busyLength, figure}
+use Rattle.station.specs.Station.{Flow, busyLength, figure}
 use Rattle.rows.specs.Links.{hopMost}
 use Rattle.rows.specs.Ports.{hopFlow, portFlows, portLength, portFigure, rootJitter, childJitter, Figures, jitterBelow, jitterOf, figureOf}
 

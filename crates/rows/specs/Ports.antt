@@ -8,8 +8,7 @@ use lib.ListN.{length}
 use Rattle.base.specs.Tests.{numberOr0}
 use Rattle.network.specs.Network.{Network, vlAt, hopAt}
 use Rattle.network.specs.Views.{hopsOn}
-use Rattle.station.specs.declared.Flow.{Flow}
-use Rattle.station.specs.Station.{busyLength, figure}
+use Rattle.station.specs.Station.{Flow, busyLength, figure}
 use Rattle.rows.specs.Links.{sendSpread, muxWait, hopMost, hopLine, hopSpread}
 
 -- the flow of a hop, by the jitters of the hops

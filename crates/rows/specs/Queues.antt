@@ -7,8 +7,7 @@ use Rattle.base.specs.Tests.{numberOr0}
 use Rattle.frame.specs.Packets.{packets}
 use Rattle.network.specs.Network.{Network, vlAt, streamAt}
 use Rattle.network.specs.Views.{streamsOn}
-use Rattle.station.specs.declared.Flow.{Flow}
-use Rattle.station.specs.Station.{busyLength, figure}
+use Rattle.station.specs.Station.{Flow, busyLength, figure}
 
 -- "J raised by (greatest − least send delay), C = p × n × BAG"
 unfoldable pub queueFlow : Network → ℕ → Flow
