@@ -18,7 +18,7 @@ use Rattle.layout.specs.Rows.{converted}
 use Rattle.layout.proofs.FaultLaws.{faultless}
 use Rattle.layout.proofs.LayoutLaws.{fields-are, listed-is}
 use Rattle.network.specs.Network.{vlAt}
-use Rattle.station.specs.Searching.{cycle}
+use Rattle.search.specs.Pass.{cycle}
 use Rattle.table.specs.Answers.{accepted}
 use Rattle.table.specs.Sections.{rows, row}
 use Rattle.table.specs.RoundTrip.{unpacked}
