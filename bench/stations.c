@@ -1,4 +1,5 @@
-/* The twin in C of the program crates/stations: the same stations in the same order, and the same lines.
+/* The twin in C of the program crates/stations: the same stations in the same order, and the same lines. Each is searched
+   twice, as there by both doors of the station.
    Those of stations.h that run for seconds are left out there and here. With -DCOUNT a last line has the counts. */
 #include "stations.h"
 
@@ -12,23 +13,28 @@ static int is_long(const char *name)
     return 0;
 }
 
-static void show(const Plan *p)
+static void show(const char *before, Search s, const char *after)
+{
+    char line[80];
+    int n = s.answer == SERVED ? snprintf(line, sizeof line, "%s %lu %lu%s", before, (unsigned long)s.length,
+                                          (unsigned long)s.best.figure, after)
+                               : snprintf(line, sizeof line, "%s refused %d%s", before, (int)s.answer, after);
+    write(1, line, (size_t)n);
+}
+
+static void show_both(const Plan *p)
 {
     static Flow flows[MOST_FLOWS];
-    char line[80];
     built(p, flows);
-    Search s = searched(flows, p->flows);
-    int n = s.answer == SERVED ? snprintf(line, sizeof line, "%s %lu %lu\n", p->name, (unsigned long)s.length,
-                                          (unsigned long)s.best.figure)
-                               : snprintf(line, sizeof line, "%s refused %d\n", p->name, (int)s.answer);
-    write(1, line, (size_t)n);
+    show(p->name, searched(flows, p->flows), " |");
+    show("", searched(flows, p->flows), "\n");
 }
 
 int main(void)
 {
     for (size_t k = 0; k < PLANS; k++)
         if (!is_long(plans[k].name))
-            show(&plans[k]);
+            show_both(&plans[k]);
 #ifdef COUNT
     dprintf(1, "0 %lu %lu %lu %lu 0\n", (unsigned long)counted.up, (unsigned long)counted.down, (unsigned long)counted.looks,
             (unsigned long)counted.longest);
