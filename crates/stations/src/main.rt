@@ -122,7 +122,7 @@ fn queue(seed: u64, base: u64, step: u64) {
     });
 }
 
-// The ends of each range, and one past them: 1,023 small flows and one that is at an end.
+// 1,023 small flows and one more, which is at an end of a range or one past it.
 fn last(words: &[u8], flow: Group) {
     io::write_all(STDOUT_FILENO, words);
     double(1_024, flows(1_023, 12_500, 0, 0, 1, 0, 0), flow);

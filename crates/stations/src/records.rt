@@ -1,5 +1,5 @@
 // The other door of the station: the flows of a list of numbers as records, of which the first n are lent as a slice.
-// A function that lends records is proved by hand, so this one does nothing else.
+// The function that lends them is proved by hand, as every one that lends records, so it does nothing else.
 use station::Answer;
 use station::Flow;
 ghost use mathlib.Core.Path.{_≡_};
@@ -28,7 +28,7 @@ pub fn made(list: &[u64; 3_075]) -> [Flow; 1_025] {
     flows
 }
 
-// What the station says of the first n of them.
+// What the station says of the first n of them, lent as a slice.
 pub fn told(flows: [Flow; 1_025], n: usize) -> Answer
     requires { ⌜ n ≤ 1025 ⌝ }
     ensures { λ r. ⌜ said r ≡ stationSays (take n flows) ⌝ }
