@@ -5,7 +5,7 @@ use station::Flow;
 ghost use mathlib.Core.Path.{_≡_};
 ghost use Prim.Native.Nat.{_≤_};
 ghost use lib.ListN.{take};
-ghost use Rattle.station.specs.Station.{stationSays};
+ghost use Rattle.station.specs.Offered.{stationSays};
 ghost use Rattle.station.specs.Answer.{said};
 
 // The flows of a list of numbers, three a flow.

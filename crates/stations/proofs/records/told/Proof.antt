@@ -51,13 +51,13 @@ use borrow.Rule.Slice.Shared.{parts-cells}
 use borrow.Table.Elements.{at, cut-app, join-app, length-take-le}
 use borrow.Table.Own.{rowI}
 use Rattle.station.specs.declared.Answer.{Answer}
-use Rattle.station.specs.declared.Flow.{Flow}
-use Rattle.station.specs.Station.{stationSays}
+use Rattle.station.specs.Station.{Flow}
+use Rattle.station.specs.Offered.{stationSays}
 use Rattle.station.specs.Answer.{said}
 use Rattle.station.proofs.Locals.{nth-ty}
 use Rattle.station.proofs.WalkLaws.{Own, contractOf, calls-fact}
-use Rattle.station.proofs.Flow as F
-use Rattle.station.proofs.Flow.Laws as F′
+use Rattle.search.proofs.Flow as F
+use Rattle.search.proofs.Flow.Laws as F′
 use Rattle.station.proofs.Answer as R
 use Rattle.station.proofs.Answer.Laws as R′
 use Rattle.station.proofs.station as station
