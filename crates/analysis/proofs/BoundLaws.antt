@@ -19,7 +19,7 @@ use Rattle.frame.specs.Frame.{protocolOverhead, leastLine, largestLine}
 use Rattle.frame.specs.Packets.{packets}
 use Rattle.frame.proofs.FrameLaws.{least-line-is, largest-line-bounds, protocol-overhead-is}
 use Rattle.frame.proofs.PacketLaws.{full-packet-is, packets-fewest, packets-some}
-use Rattle.network.specs.Network.{Network, vlAt, systemAt, streamAt, portAt, hopAt}
+use Rattle.network.specs.Network.{Network, vlAt, systemAt, streamAt, portAt, hopAt, parentAt}
 use Rattle.network.specs.ReferenceFacts.{References}
 use Rattle.network.specs.Views.{hopsOn, streamsOn}
 use Rattle.network.specs.References.{routeLonger}
@@ -73,8 +73,8 @@ module _ (net : Network) (ranges : Ranges net) (refs : References net) where
   line-bounds : (v : ℕ) → v < length (net .vls) → (leastLine ≤ largestLine (vlAt net v .lmax)) × (largestLine (vlAt net v .lmax) ≤ 1538)
   line-bounds v l = let vl = ranges .vl v l in largest-line-bounds (vlAt net v .lmax) (vl .lmax-least) (vl .lmax-greatest)
 
-  byte-most : (v : ℕ) → v < length (net .vls) → systemAt net (vlAt net v .system) .perByte ≤ 10
-  byte-most v l = per-byte-bounds (systemAt net (vlAt net v .system) .perByte) (ranges .system (vlAt net v .system) (refs .vl-system v l)) .1
+  byte-most : (v : ℕ) → v < length (net .vls) → systemAt net (vlAt net v .system) .perbyte ≤ 10
+  byte-most v l = per-byte-bounds (systemAt net (vlAt net v .system) .perbyte) (ranges .system (vlAt net v .system) (refs .vl-system v l)) .1
 
   send-most-bound : (v : ℕ) → v < length (net .vls) → sendMost net v ≤ 15380
   unfolding sendMost
@@ -90,7 +90,7 @@ module _ (net : Network) (ranges : Ranges net) (refs : References net) where
   unfolding hopMost
   hop-most-bounds h l =
       let line = line-bounds (hopAt net h .vl) (refs .hop-vl h l) in
-      let per = per-byte-bounds (portAt net (hopAt net h .port) .perByte) (ranges .port (hopAt net h .port) (refs .hop-port h l) .per-byte) in
+      let per = per-byte-bounds (portAt net (hopAt net h .port) .perbyte) (ranges .port (hopAt net h .port) (refs .hop-port h l) .per-byte) in
       let some-bytes : 1 ≤ largestLine (vlAt net (hopAt net h .vl) .lmax) = omega (arith, least-line-is) in
       (mul-le-mul {n₁ = 1} {m₁ = 1} some-bytes (per .0), mul-le-mul (line .1) (per .1))
 
@@ -111,7 +111,7 @@ module _ (net : Network) (ranges : Ranges net) (refs : References net) where
   stream-on : (v k s : ℕ) → List·Memᴰ s (streamsOn net v k) → s < length (net .streams)
   unfolding streamsOn
   stream-on v k s m =
-      passing-member (λ s. eqb (streamAt net s .vl) v && eqb (streamAt net s .subLink) k) (length (net .streams)) s m .0
+      passing-member (λ s. eqb (streamAt net s .vl) v && eqb (streamAt net s .sublink) k) (length (net .streams)) s m .0
 
   queue-flow-in-range : (s : ℕ) → s < length (net .streams) → InRange (queueFlow net s)
   unfolding queueFlow
@@ -132,7 +132,7 @@ module _ (net : Network) (ranges : Ranges net) (refs : References net) where
   unfolding queueFlows streamsOn
   queue-offered v k =
       taken (queueFlow net) (streamsOn net v k)
-      (omega (arith, length-passing (λ s. eqb (streamAt net s .vl) v && eqb (streamAt net s .subLink) k) (length (net .streams)), ranges .few-streams))
+      (omega (arith, length-passing (λ s. eqb (streamAt net s .vl) v && eqb (streamAt net s .sublink) k) (length (net .streams)), ranges .few-streams))
       (λ s m. queue-flow-in-range s (stream-on v k s m))
 
   pub queue-figure-bound : (v k : ℕ) → queueFigure net v k ≤ 125000000
@@ -153,10 +153,10 @@ module _ (net : Network) (ranges : Ranges net) (refs : References net) where
   jitter-by-route : (n h : ℕ) → h < length (net .hops) → routeLonger net n h ≡ false → jitterOf net h ≤ 3955000 + n * 125001250
   unfolding routeLonger rootJitter childJitter figureOf
   jitter-by-route zero h l e = absurd (true≢false e)
-  jitter-by-route (suc n) h l e = go (λ g. jitter-by-route n g) (hopAt net h .parent) refl
+  jitter-by-route (suc n) h l e = go (λ g. jitter-by-route n g) (parentAt net h) refl
     where
       go : ((g : ℕ) → g < length (net .hops) → routeLonger net n g ≡ false → jitterOf net g ≤ 3955000 + n * 125001250)
-          → (o : Option ℕ) → hopAt net h .parent ≡ o → jitterOf net h ≤ 3955000 + suc n * 125001250
+          → (o : Option ℕ) → parentAt net h ≡ o → jitterOf net h ≤ 3955000 + suc n * 125001250
       go ih none k =
           omega (arith, figures-of net refs .root-is h l k, mux-wait-bound (hopAt net h .vl), send-spread-bound (hopAt net h .vl) (refs .hop-vl h l), hop-spread-bound h l)
       go ih (some g) k =

@@ -10,7 +10,7 @@ use native.Mathlib.Omega.{arith}
 use lib.ListN.{length, getD}
 use Rattle.base.specs.Pick.{pick}
 use Rattle.frame.specs.Frame.{lineOverhead, leastFrame, leastLine, largestLine}
-use Rattle.network.specs.Network.{Network, hopAt}
+use Rattle.network.specs.Network.{Network, hopAt, parentAt}
 use Rattle.network.specs.ReferenceFacts.{References}
 use Rattle.network.specs.Ranges.{Ranges}
 use Rattle.rows.specs.Links.{sendSpread, hopMost, hopLine, hopSpread}
@@ -51,11 +51,11 @@ module _ (net : Network) (ranges : Ranges net) (refs : References net) (h : ℕ)
         → getD waits (hop .vl) 0 + send + spread ≡ jitterOf net h
     unfolding rootJitter
     root-jitter-is root send s spread d =
-        let none-is : hopAt net h .parent ≡ none = is .parent ∙ ap (λ (b : Bool). pick b none (some (hop .parent))) root in
+        let none-is : parentAt net h ≡ none = is .parent ∙ ap (λ (b : Bool). pick b none (some (hop .parent))) root in
         cc (known .wait-is (hop .vl) (is .vl-there), figures-of net refs .root-is h row none-is)
 
   module _ (child : hop .root ≡ false) where
-    parent-is : hopAt net h .parent ≡ some (hop .parent)
+    parent-is : parentAt net h ≡ some (hop .parent)
     parent-is = is .parent ∙ ap (λ (b : Bool). pick b none (some (hop .parent))) child
 
     module _ (jitters : List ℕ) (known : Jitters net jitters (hopAt net h .port)) where

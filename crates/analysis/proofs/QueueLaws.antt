@@ -46,14 +46,14 @@ queue-flow-is net s p d stream vl delays is on e =
 
 -- ---- the streams of a sub-link: the test that picks them
 abbrev pub onSubLink : Network → ℕ → ℕ → ℕ → Bool
-onSubLink net v k s = eqb (streamAt net s .vl) v && eqb (streamAt net s .subLink) k
+onSubLink net v k s = eqb (streamAt net s .vl) v && eqb (streamAt net s .sublink) k
 
 module _ (net : Network) (v k s : ℕ) (stream : Stream) (is : IsStream net s stream) where
   pub on-sub-link : stream .vl ≡ v → stream .«sub_link» ≡ k → onSubLink net v k s ≡ true
   on-sub-link e f = rw (eq-eqb _ _ (sym (is .vl) ∙ e), eq-eqb _ _ (sym (is .sub-link) ∙ f))
 
   pub on-other-sub-link : (stream .«sub_link» ≡ k → ⊥) → onSubLink net v k s ≡ false
-  on-other-sub-link f = rw (ne-eqb _ _ (λ (e : streamAt net s .subLink ≡ k). f (is .sub-link ∙ e))) (and-false (eqb (streamAt net s .vl) v))
+  on-other-sub-link f = rw (ne-eqb _ _ (λ (e : streamAt net s .sublink ≡ k). f (is .sub-link ∙ e))) (and-false (eqb (streamAt net s .vl) v))
 
   pub on-other-vl : (stream .vl ≡ v → ⊥) → onSubLink net v k s ≡ false
   on-other-vl f = rw (ne-eqb _ _ (λ (e : streamAt net s .vl ≡ v). f (is .vl ∙ e)))
@@ -74,17 +74,17 @@ module _ (net : Network) (v k : ℕ) where
 
 -- ---- a queue without a busy length
 module _ (net : Network) (v : ℕ) where
-  pub sub-link-endless : (k : ℕ) → k < vlAt net v .subLinks → not (isSome (queueLength net v k)) ≡ true → isSome (endlessSubLink net v) ≡ true
+  pub sub-link-endless : (k : ℕ) → k < vlAt net v .sublinks → not (isSome (queueLength net v k)) ≡ true → isSome (endlessSubLink net v) ≡ true
   unfolding endlessSubLink
   sub-link-endless k h e =
-      let x = least-exists (λ k. not (isSome (queueLength net v k))) 0 (vlAt net v .subLinks) k (omega arith) (omega arith) e in
+      let x = least-exists (λ k. not (isSome (queueLength net v k))) 0 (vlAt net v .sublinks) k (omega arith) (omega arith) e in
       some-is (endlessSubLink net v) (x .at) (x .is)
 
   pub no-sub-link-endless :
-      ((k : ℕ) → k < vlAt net v .subLinks → not (isSome (queueLength net v k)) ≡ false) → isSome (endlessSubLink net v) ≡ false
+      ((k : ℕ) → k < vlAt net v .sublinks → not (isSome (queueLength net v k)) ≡ false) → isSome (endlessSubLink net v) ≡ false
   unfolding endlessSubLink
   no-sub-link-endless all =
-      none-is (endlessSubLink net v) (least-none (λ k. not (isSome (queueLength net v k))) 0 (vlAt net v .subLinks) (λ k a b. all k (omega arith)))
+      none-is (endlessSubLink net v) (least-none (λ k. not (isSome (queueLength net v k))) 0 (vlAt net v .sublinks) (λ k a b. all k (omega arith)))
 
   -- ---- the figure of one sub-link more is stored
   pub queue-stored : (queues : List ℕ) (k x : ℕ) → v * 4 + k < length queues → x ≡ queueFigure net v k → QueuesOf net queues v k
@@ -104,7 +104,7 @@ module _ (net : Network) where
   pub queues-none : (queues : List ℕ) → Queues net queues 0
   queues-none queues = record { queues-of = λ v h. absurd (omega arith) }
 
-  pub queues-more : (queues : List ℕ) (n : ℕ) → Queues net queues n → QueuesOf net queues n (vlAt net n .subLinks) → Queues net queues (n + 1)
+  pub queues-more : (queues : List ℕ) (n : ℕ) → Queues net queues n → QueuesOf net queues n (vlAt net n .sublinks) → Queues net queues (n + 1)
   queues-more queues n q here = record { queues-of = below-more _ n (q .queues-of) here }
 
   -- they stay where numbers before those of VL n stay

@@ -23,7 +23,7 @@ use Rattle.base.proofs.TabulateLaws.{passing-hit, passing-miss, passing-by}
 use Rattle.base.proofs.TestLaws.{some-is}
 use Rattle.bits.proofs.RecordLaws.{total-append}
 use Rattle.frame.specs.Packets.{packets}
-use Rattle.network.specs.Network.{Network, vlAt, streamAt, portAt, hopAt}
+use Rattle.network.specs.Network.{Network, vlAt, streamAt, portAt, hopAt, parentAt}
 use Rattle.network.specs.Views.{routeOf, isParent, leaf, leavesOf, route}
 use Rattle.network.proofs.RouteLaws.{route-of-root, route-of-child}
 use Rattle.rows.specs.Links.{sendMost, sendLine, muxWait, hopLine}
@@ -61,7 +61,7 @@ module _ (net : Network) where
   -- ---- the leaves, where the first n hops are looked at
   -- whether hop h is the parent of one of them
   abbrev pub isParentBelow : ℕ → ℕ → Bool
-  isParentBelow n h = isSome (leastFrom (λ g. isParent h (hopAt net g .parent)) 0 n)
+  isParentBelow n h = isSome (leastFrom (λ g. isParent h (parentAt net g)) 0 n)
 
   abbrev pub LeavesTo : ℕ → List Bool → Type 0
   LeavesTo n leaves = (h : ℕ) → h < length (net .hops) → getD leaves h false ≡ not (isParentBelow n h)
@@ -70,26 +70,26 @@ module _ (net : Network) where
   unfolding leastFrom isSome
   leaves-start few h l = getD-replicate 1024 h true false (omega arith)
 
-  pub leaves-at-root : (n : ℕ) (leaves : List Bool) → hopAt net n .parent ≡ none → LeavesTo n leaves → LeavesTo (n + 1) leaves
+  pub leaves-at-root : (n : ℕ) (leaves : List Bool) → parentAt net n ≡ none → LeavesTo n leaves → LeavesTo (n + 1) leaves
   unfolding isParent
   leaves-at-root n leaves e all h l =
-      all h l ∙ ap (λ (o : Option ℕ). not (isSome o)) (sym (least-more-miss (λ g. isParent h (hopAt net g .parent)) n (ap (isParent h) e)))
+      all h l ∙ ap (λ (o : Option ℕ). not (isSome o)) (sym (least-more-miss (λ g. isParent h (parentAt net g)) n (ap (isParent h) e)))
 
   pub leaves-at-child :
-      (n g : ℕ) (leaves : List Bool) → hopAt net n .parent ≡ some g → length (net .hops) ≤ length leaves → LeavesTo n leaves
+      (n g : ℕ) (leaves : List Bool) → parentAt net n ≡ some g → length (net .hops) ≤ length leaves → LeavesTo n leaves
       → LeavesTo (n + 1) (set leaves g false)
   unfolding isParent
   leaves-at-child n g leaves e room all h l = elim (ℕ-discrete h g) [
     | yes same ↦
-        let hit : isParent h (hopAt net n .parent) ≡ true = ap (isParent h) e ∙ eq-eqb g h (sym same) in
+        let hit : isParent h (parentAt net n) ≡ true = ap (isParent h) e ∙ eq-eqb g h (sym same) in
         ap (λ (i : ℕ). getD (set leaves g false) i false) same
         ∙ getD-set-same leaves g false false (omega arith)
-        ∙ ap not (sym (least-more-hit (λ g. isParent h (hopAt net g .parent)) n hit))
+        ∙ ap not (sym (least-more-hit (λ g. isParent h (parentAt net g)) n hit))
     | no other ↦
-        let miss : isParent h (hopAt net n .parent) ≡ false = ap (isParent h) e ∙ ne-eqb g h (λ s. other (sym s)) in
+        let miss : isParent h (parentAt net n) ≡ false = ap (isParent h) e ∙ ne-eqb g h (λ s. other (sym s)) in
         getD-set-other leaves g h false false other
         ∙ all h l
-        ∙ ap (λ (o : Option ℕ). not (isSome o)) (sym (least-more-miss (λ g. isParent h (hopAt net g .parent)) n miss))
+        ∙ ap (λ (o : Option ℕ). not (isSome o)) (sym (least-more-miss (λ g. isParent h (parentAt net g)) n miss))
   ]
 
   pub leaves-all : (n : ℕ) (leaves : List Bool) → n ≡ length (net .hops) → LeavesTo n leaves → Leaves net leaves
@@ -125,12 +125,12 @@ module _ (net : Network) where
     abbrev pub along : ℕ → ℕ → ℕ
     along n g = total (map f (routeOf net n g))
 
-    pub along-root : (n g sum all : ℕ) → 0 < n → hopAt net g .parent ≡ none → sum + along n g ≡ all → sum + f g ≡ all
+    pub along-root : (n g sum all : ℕ) → 0 < n → parentAt net g ≡ none → sum + along n g ≡ all → sum + f g ≡ all
     unfolding total
     along-root zero g sum all h e s = absurd (omega arith)
     along-root (suc n) g sum all h e s = omega (arith, ap (λ (r : List ℕ). total (map f r)) (route-of-root net n g e))
 
-    pub along-child : (n g i sum all : ℕ) → 0 < n → hopAt net g .parent ≡ some i → sum + along n g ≡ all → sum + f g + along (n - 1) i ≡ all
+    pub along-child : (n g i sum all : ℕ) → 0 < n → parentAt net g ≡ some i → sum + along n g ≡ all → sum + f g + along (n - 1) i ≡ all
     unfolding total
     along-child zero g i sum all h e s = absurd (omega arith)
     along-child (suc n) g i sum all h e s =
@@ -143,10 +143,10 @@ module _ (net : Network) where
 
   -- the ticks that a hop adds at most and at least
   abbrev pub mostAt : ℕ → ℕ
-  mostAt g = portAt net (hopAt net g .port) .delayGreatest + figureOf net g
+  mostAt g = portAt net (hopAt net g .port) .greatest + figureOf net g
 
   abbrev pub leastAt : ℕ → ℕ
-  leastAt g = hopLine net g + portAt net (hopAt net g .port) .delayLeast
+  leastAt g = hopLine net g + portAt net (hopAt net g .port) .least
 
   pub route-most-is : (h : ℕ) → routeMost net (route net h) ≡ along mostAt 8 h
   unfolding routeMost route
@@ -158,17 +158,17 @@ module _ (net : Network) where
 
   -- as they are read: the port's delay and the figure noted for it; the hop's frame and the port's delay
   pub most-read : (figures : List ℕ) (g p d : ℕ) → Figures net figures (length (net .ports)) → p < length (net .ports) → p ≡ hopAt net g .port
-      → d ≡ portAt net p .delayGreatest → d + getD figures p 0 ≡ mostAt g
+      → d ≡ portAt net p .greatest → d + getD figures p 0 ≡ mostAt g
   unfolding figureOf
   most-read figures g p d known l e f =
-      ap₂ _+_ (f ∙ ap (λ (q : ℕ). portAt net q .delayGreatest) e) (known .figure-is p l ∙ ap (portFigure net (jitterOf net)) e)
+      ap₂ _+_ (f ∙ ap (λ (q : ℕ). portAt net q .greatest) e) (known .figure-is p l ∙ ap (portFigure net (jitterOf net)) e)
 
-  pub least-read : (g p line d : ℕ) → p ≡ hopAt net g .port → line ≡ hopLine net g → d ≡ portAt net p .delayLeast → line + d ≡ leastAt g
-  least-read g p line d e f k = ap₂ _+_ f (k ∙ ap (λ (q : ℕ). portAt net q .delayLeast) e)
+  pub least-read : (g p line d : ℕ) → p ≡ hopAt net g .port → line ≡ hopLine net g → d ≡ portAt net p .least → line + d ≡ leastAt g
+  least-read g p line d e f k = ap₂ _+_ f (k ∙ ap (λ (q : ℕ). portAt net q .least) e)
 
   -- ---- the figures of a row as they are read
-  pub queue-read : (queues : List ℕ) (s v k : ℕ) → Queues net queues (length (net .vls)) → v < length (net .vls) → k < vlAt net (streamAt net s .vl) .subLinks
-      → v ≡ streamAt net s .vl → k ≡ streamAt net s .subLink → getD queues (v * 4 + k) 0 ≡ queueOf net s
+  pub queue-read : (queues : List ℕ) (s v k : ℕ) → Queues net queues (length (net .vls)) → v < length (net .vls) → k < vlAt net (streamAt net s .vl) .sublinks
+      → v ≡ streamAt net s .vl → k ≡ streamAt net s .sublink → getD queues (v * 4 + k) 0 ≡ queueOf net s
   unfolding queueOf
   queue-read queues s v k known l there e f =
       known .queues-of v l .queue-is k (rw e there) ∙ ap₂ (queueFigure net) e f
@@ -176,9 +176,9 @@ module _ (net : Network) where
   pub wait-read : (waits : List ℕ) (v u : ℕ) → Waits net waits → v < length (net .vls) → v ≡ u → getD waits v 0 ≡ muxWait net u
   wait-read waits v u known l e = known .wait-is v l ∙ ap (muxWait net) e
 
-  pub gaps-read : (s v p size lmax gap : ℕ) → v ≡ streamAt net s .vl → p ≡ packets size lmax → size ≡ streamAt net s .leastSize → lmax ≡ vlAt net v .lmax
+  pub gaps-read : (s v p size lmax gap : ℕ) → v ≡ streamAt net s .vl → p ≡ packets size lmax → size ≡ streamAt net s .least → lmax ≡ vlAt net v .lmax
       → gap ≡ vlAt net v .gap
-      → (p - 1) * gap ≡ (packets (streamAt net s .leastSize) (vlAt net (streamAt net s .vl) .lmax) - 1) * vlAt net (streamAt net s .vl) .gap
+      → (p - 1) * gap ≡ (packets (streamAt net s .least) (vlAt net (streamAt net s .vl) .lmax) - 1) * vlAt net (streamAt net s .vl) .gap
   gaps-read s v p size lmax gap e f g i j = rw (f, g, i, j, e)
 
   pub row-read : (s h q w b jitter d : ℕ) → q ≡ queueOf net s → w ≡ worst net s h → b ≡ best net s h → jitter ≡ streamAt net s .jitter → d ≡ w - b
@@ -193,7 +193,7 @@ module _ (net : Network) where
   worst-is s h = omega (arith, total-append (map mostAt (route net h)) (net .receiveGreatest ∷ []))
 
   pub best-is : (s h : ℕ) →
-      best net s h ≡ net .sendLeast + (packets (streamAt net s .leastSize) (vlAt net (streamAt net s .vl) .lmax) - 1) * vlAt net (streamAt net s .vl) .gap + sendLine net (streamAt net s .vl) + routeLeast net (route net h) + net .receiveLeast
+      best net s h ≡ net .sendLeast + (packets (streamAt net s .least) (vlAt net (streamAt net s .vl) .lmax) - 1) * vlAt net (streamAt net s .vl) .gap + sendLine net (streamAt net s .vl) + routeLeast net (route net h) + net .receiveLeast
   unfolding best bestParts routeLeast total
   best-is s h = omega (arith, total-append (map leastAt (route net h)) (net .receiveLeast ∷ []))
 

@@ -10,7 +10,7 @@ use lib.ListN.{length, getD, drop, length-drop}
 use lib.Seq.{getD-take, getD-drop, length-take-le}
 use Rattle.frame.specs.Tick.{perMs}
 use Rattle.frame.proofs.TickLaws.{per-ms-is}
-use Rattle.network.specs.Network.{systemAt, streamAt, portAt, hopAt}
+use Rattle.network.specs.Network.{systemAt, streamAt, portAt, hopAt, parentAt}
 use Rattle.table.specs.Write.{recordsIn}
 use Rattle.table.specs.Decoded.{numberAt, ticksAt, parentOf}
 use Rattle.table.proofs.DecodedLaws.{send-least, send-greatest, receive-least, receive-greatest, systems-are, vls-are, streams-are, ports-are, hops-are, systems-records, vls-records, streams-records, ports-records, hops-records, system-number, vl-number, stream-number, port-number, hop-number, first-number, system-per-byte, vl-system, vl-gap, vl-sub-links, vl-lmax, stream-vl, stream-sub-link, stream-size, stream-least-size, stream-period, stream-jitter, port-per-byte, port-delay-least, port-delay-greatest, hop-vl, hop-port, hop-parent, parent-none, parent-some}
@@ -105,7 +105,7 @@ module _ {sheet : List ℕ} (good : Good sheet) where
 
   -- ---- an end system
   pub system-read : (e x : ℕ) → e < length (networkOn sheet .systems) → x ≡ ticksAt (getD sheet (9 + e) 0)
-      → (x ≡ systemAt (networkOn sheet) e .perByte) × (1 ≤ x) × (x ≤ 10)
+      → (x ≡ systemAt (networkOn sheet) e .perbyte) × (1 ≤ x) × (x ≤ 10)
   unfolding networkOn listsOn
   system-read e x h is =
       let ls = listsOn sheet in
@@ -113,7 +113,7 @@ module _ {sheet : List ℕ} (good : Good sheet) where
       let number =
       system-number ls e 0 ∙ part-at sheet 9 (getD sheet 4 0) (e * 1 + 0) (omega (arith, systems-on)) ∙ ap (λ (i : ℕ). getD sheet i 0) place in
       let same = is ∙ sym (system-per-byte ls e (omega (arith, systems-are ls)) ∙ ap ticksAt number) in
-      let bounds = per-byte-bounds (systemAt (networkOn sheet) e .perByte) (good .ranges .system e h) in
+      let bounds = per-byte-bounds (systemAt (networkOn sheet) e .perbyte) (good .ranges .system e h) in
       (same, omega (arith, same, bounds .0), omega (arith, same, bounds .1))
 
   -- ---- a VL
@@ -210,7 +210,7 @@ module _ {sheet : List ℕ} (good : Good sheet) where
       let least = port-delay-least ls p there ∙ number 1 (omega arith) in
       let greatest = port-delay-greatest ls p there ∙ number 2 (omega arith) in
       let range = good .ranges .port p h in
-      let bounds = per-byte-bounds (portAt (networkOn sheet) p .perByte) (range .per-byte) in
+      let bounds = per-byte-bounds (portAt (networkOn sheet) p .perbyte) (range .per-byte) in
       record {
         per-byte = speed;
         delay-least = sym least;
@@ -239,7 +239,7 @@ module _ {sheet : List ℕ} (good : Good sheet) where
     unfolding networkOn
     hop-port-on = hop-port (listsOn sheet) h hop-there ∙ hop-number-on 1 (omega arith)
 
-    hop-parent-on : hopAt (networkOn sheet) h .parent ≡ parentOf (getD sheet (5065 + h * 3 + 2) 0)
+    hop-parent-on : parentAt (networkOn sheet) h ≡ parentOf (getD sheet (5065 + h * 3 + 2) 0)
     unfolding networkOn
     hop-parent-on = hop-parent (listsOn sheet) h hop-there ∙ ap parentOf (hop-number-on 2 (omega arith))
 

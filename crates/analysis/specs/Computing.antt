@@ -33,7 +33,7 @@ pub record QueuesOf (net : Network) (queues : List ℕ) (v n : ℕ) : Type 0 whe
   pub queue-is : (k : ℕ) → k < n → getD queues (v * 4 + k) 0 ≡ queueFigure net v k
 
 pub record Queues (net : Network) (queues : List ℕ) (n : ℕ) : Type 0 where
-  pub queues-of : (v : ℕ) → v < n → QueuesOf net queues v (vlAt net v .subLinks)
+  pub queues-of : (v : ℕ) → v < n → QueuesOf net queues v (vlAt net v .sublinks)
 
 -- ---- ports: the figures of the ports below n, and the jitters of the hops on them and of the first m hops on port n
 pub record Figures (net : Network) (figures : List ℕ) (n : ℕ) : Type 0 where

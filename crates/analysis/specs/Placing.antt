@@ -21,10 +21,10 @@ putAt l at row = take at l ++ row ++ drop (at + length row) l
 
 -- the ticks that a route adds at most, and at least
 unfoldable pub routeMost : Network → List ℕ → ℕ
-routeMost net hs = total (map (λ g. portAt net (hopAt net g .port) .delayGreatest + figureOf net g) hs)
+routeMost net hs = total (map (λ g. portAt net (hopAt net g .port) .greatest + figureOf net g) hs)
 
 unfoldable pub routeLeast : Network → List ℕ → ℕ
-routeLeast net hs = total (map (λ g. hopLine net g + portAt net (hopAt net g .port) .delayLeast) hs)
+routeLeast net hs = total (map (λ g. hopLine net g + portAt net (hopAt net g .port) .least) hs)
 
 -- all that is computed before the rows
 pub record Known (sheet waits queues figures : List ℕ) : Type 0 where

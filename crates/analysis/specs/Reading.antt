@@ -5,7 +5,7 @@ use mathlib.Core.Option.{none, some}
 use mathlib.Core.Path.{_≡_}
 use lib.ListN.{length}
 use Rattle.base.specs.Pick.{pick}
-use Rattle.network.specs.Network.{Network, vlAt, streamAt, portAt, hopAt}
+use Rattle.network.specs.Network.{Network, vlAt, streamAt, portAt, hopAt, parentAt}
 use Rattle.analysis.specs.declared.sheet.Delays.{Delays}
 use Rattle.analysis.specs.declared.sheet.Vl.{Vl}
 use Rattle.analysis.specs.declared.sheet.Stream.{Stream}
@@ -25,7 +25,7 @@ pub record IsDelays (net : Network) (r : Delays) : Type 0 where
 pub record IsVl (net : Network) (v : ℕ) (r : Vl) : Type 0 where
   pub system : r .system ≡ vlAt net v .system
   pub gap : r .gap ≡ vlAt net v .gap
-  pub sub-links : r .«sub_links» ≡ vlAt net v .subLinks
+  pub sub-links : r .«sub_links» ≡ vlAt net v .sublinks
   pub lmax : r .lmax ≡ vlAt net v .lmax
   pub system-there : r .system < length (net .systems)
   pub gap-least : 12500 ≤ r .gap
@@ -37,13 +37,13 @@ pub record IsVl (net : Network) (v : ℕ) (r : Vl) : Type 0 where
 
 pub record IsStream (net : Network) (s : ℕ) (r : Stream) : Type 0 where
   pub vl : r .vl ≡ streamAt net s .vl
-  pub sub-link : r .«sub_link» ≡ streamAt net s .subLink
+  pub sub-link : r .«sub_link» ≡ streamAt net s .sublink
   pub size : r .size ≡ streamAt net s .size
-  pub least-size : r .«least_size» ≡ streamAt net s .leastSize
+  pub least-size : r .«least_size» ≡ streamAt net s .least
   pub period : r .period ≡ streamAt net s .period
   pub jitter : r .jitter ≡ streamAt net s .jitter
   pub vl-there : r .vl < length (net .vls)
-  pub sub-link-there : r .«sub_link» < vlAt net (streamAt net s .vl) .subLinks
+  pub sub-link-there : r .«sub_link» < vlAt net (streamAt net s .vl) .sublinks
   pub sub-link-greatest : r .«sub_link» < 4
   pub least-size-least : 1 ≤ r .«least_size»
   pub sizes-ordered : r .«least_size» ≤ r .size
@@ -51,9 +51,9 @@ pub record IsStream (net : Network) (s : ℕ) (r : Stream) : Type 0 where
   pub jitter-greatest : r .jitter ≤ 125000000
 
 pub record IsPort (net : Network) (p : ℕ) (r : Port) : Type 0 where
-  pub per-byte : r .«per_byte» ≡ portAt net p .perByte
-  pub delay-least : r .«delay_least» ≡ portAt net p .delayLeast
-  pub delay-greatest : r .«delay_greatest» ≡ portAt net p .delayGreatest
+  pub per-byte : r .«per_byte» ≡ portAt net p .perbyte
+  pub delay-least : r .«delay_least» ≡ portAt net p .least
+  pub delay-greatest : r .«delay_greatest» ≡ portAt net p .greatest
   pub per-byte-least : 1 ≤ r .«per_byte»
   pub per-byte-greatest : r .«per_byte» ≤ 10
   pub delays-ordered : r .«delay_least» ≤ r .«delay_greatest»
@@ -62,7 +62,7 @@ pub record IsPort (net : Network) (p : ℕ) (r : Port) : Type 0 where
 pub record IsHop (net : Network) (h : ℕ) (r : Hop) : Type 0 where
   pub vl : r .vl ≡ hopAt net h .vl
   pub port : r .port ≡ hopAt net h .port
-  pub parent : hopAt net h .parent ≡ pick (r .root) none (some (r .parent))
+  pub parent : parentAt net h ≡ pick (r .root) none (some (r .parent))
   pub vl-there : r .vl < length (net .vls)
   pub port-there : r .port < length (net .ports)
   -- 0 where there is none

@@ -90,7 +90,7 @@ fn vl_queues(
     queues: &mut [u64; 1_024],
 ) -> bool
     requires { ⌜ Good (now net) × (v < length (networkOn (now net) .vls)) × (length (now flows) ≡ 3072) × (length (now queues) ≡ 1024) ⌝ }
-    ensures { λ r. ⌜ (r ≡ isSome (endlessSubLink (networkOn (now (net .entry))) v)) × (r ≡ false → QueuesOf (networkOn (now (net .entry))) (now (queues .exit)) v (vlAt (networkOn (now (net .entry))) v .subLinks)) × ((i : ℕ) → i < v * 4 → getD (now (queues .exit)) i 0 ≡ getD (now (queues .entry)) i 0) × (length (now (queues .exit)) ≡ 1024) × (length (now (flows .exit)) ≡ 3072) ⌝ }
+    ensures { λ r. ⌜ (r ≡ isSome (endlessSubLink (networkOn (now (net .entry))) v)) × (r ≡ false → QueuesOf (networkOn (now (net .entry))) (now (queues .exit)) v (vlAt (networkOn (now (net .entry))) v .sublinks)) × ((i : ℕ) → i < v * 4 → getD (now (queues .exit)) i 0 ≡ getD (now (queues .entry)) i 0) × (length (now (queues .exit)) ≡ 1024) × (length (now (flows .exit)) ≡ 3072) ⌝ }
 {
     let vl = sheet::vl_at(net, v);
     let n = vl.sub_links;

@@ -127,7 +127,7 @@ fn ticks_at(mbit: u64) -> u64
 // The ticks that a byte takes on an end system's link.
 pub fn system_byte(net: &[u64; SHEET], e: usize) -> u64
     requires { ⌜ Good (now net) × (e < length (networkOn (now net) .systems)) ⌝ }
-    ensures { λ r. ⌜ (r ≡ systemAt (networkOn (now (net .entry))) e .perByte) × (1 ≤ r) × (r ≤ 10) ⌝ }
+    ensures { λ r. ⌜ (r ≡ systemAt (networkOn (now (net .entry))) e .perbyte) × (1 ≤ r) × (r ≤ 10) ⌝ }
 {
     ticks_at(net[SYSTEMS + e])
 }

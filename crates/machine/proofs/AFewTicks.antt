@@ -13,6 +13,7 @@ use Rattle.base.specs.Tabulate.{passing}
 use Rattle.base.specs.Tests.{isSome}
 use Rattle.frame.specs.Frame.{protocolOverhead, lineOf, lineBytes}
 use Rattle.frame.specs.Packets.{fullPacket, packets, cut, packetLines}
+use Rattle.network.specs.declared.Parent.the-variants.{Root, After}
 use Rattle.network.specs.Network.{Network}
 use Rattle.network.specs.Views.{hopsOn, vlsOf, isParent, leaf}
 use Rattle.machine.specs.Sum.{span}
@@ -98,11 +99,11 @@ pair = record {
   sendGreatest = 0;
   receiveLeast = 0;
   receiveGreatest = 0;
-  systems = record { perByte = 1 } ∷ [];
-  vls = record { system = 0; gap = 12500; subLinks = 1; lmax = 64 } ∷ record { system = 0; gap = 12500; subLinks = 1; lmax = 64 } ∷ [];
+  systems = record { perbyte = 1 } ∷ [];
+  vls = record { system = 0; gap = 12500; sublinks = 1; lmax = 64 } ∷ record { system = 0; gap = 12500; sublinks = 1; lmax = 64 } ∷ [];
   streams =
-      record { vl = 0; subLink = 0; sampling = false; size = 10; leastSize = 10; period = 12500; jitter = 0 }
-      ∷ record { vl = 1; subLink = 0; sampling = false; size = 10; leastSize = 10; period = 12500; jitter = 0 } ∷ [];
+      record { vl = 0; sublink = 0; sampling = false; size = 10; least = 10; period = 12500; jitter = 0 }
+      ∷ record { vl = 1; sublink = 0; sampling = false; size = 10; least = 10; period = 12500; jitter = 0 } ∷ [];
   ports = [];
   hops = [];
 }
@@ -154,11 +155,11 @@ small = record {
   sendGreatest = 0;
   receiveLeast = 0;
   receiveGreatest = 0;
-  systems = record { perByte = 1 } ∷ [];
-  vls = record { system = 0; gap = 12500; subLinks = 1; lmax = 64 } ∷ [];
-  streams = record { vl = 0; subLink = 0; sampling = false; size = 10; leastSize = 10; period = 12500; jitter = 0 } ∷ [];
-  ports = record { perByte = 1; delayLeast = 0; delayGreatest = 0 } ∷ [];
-  hops = record { vl = 0; port = 0; parent = none } ∷ [];
+  systems = record { perbyte = 1 } ∷ [];
+  vls = record { system = 0; gap = 12500; sublinks = 1; lmax = 64 } ∷ [];
+  streams = record { vl = 0; sublink = 0; sampling = false; size = 10; least = 10; period = 12500; jitter = 0 } ∷ [];
+  ports = record { perbyte = 1; least = 0; greatest = 0 } ∷ [];
+  hops = record { vl = 0; port = 0; parent = Root } ∷ [];
 }
 
 -- its packet, handed over in tick t
@@ -206,11 +207,11 @@ two = record {
   sendGreatest = 9;
   receiveLeast = 0;
   receiveGreatest = 9;
-  systems = record { perByte = 1 } ∷ [];
-  vls = record { system = 0; gap = 12500; subLinks = 1; lmax = 64 } ∷ [];
-  streams = record { vl = 0; subLink = 0; sampling = false; size = 10; leastSize = 10; period = 12500; jitter = 0 } ∷ [];
-  ports = record { perByte = 1; delayLeast = 0; delayGreatest = 9 } ∷ record { perByte = 1; delayLeast = 0; delayGreatest = 9 } ∷ [];
-  hops = record { vl = 0; port = 0; parent = none } ∷ record { vl = 0; port = 1; parent = some 0 } ∷ [];
+  systems = record { perbyte = 1 } ∷ [];
+  vls = record { system = 0; gap = 12500; sublinks = 1; lmax = 64 } ∷ [];
+  streams = record { vl = 0; sublink = 0; sampling = false; size = 10; least = 10; period = 12500; jitter = 0 } ∷ [];
+  ports = record { perbyte = 1; least = 0; greatest = 9 } ∷ record { perbyte = 1; least = 0; greatest = 9 } ∷ [];
+  hops = record { vl = 0; port = 0; parent = Root } ∷ record { vl = 0; port = 1; parent = After 0 } ∷ [];
 }
 
 -- with a switch delay of d before port 0
@@ -261,11 +262,11 @@ fork = record {
   sendGreatest = 0;
   receiveLeast = 0;
   receiveGreatest = 0;
-  systems = record { perByte = 1 } ∷ [];
-  vls = record { system = 0; gap = 12500; subLinks = 1; lmax = 64 } ∷ [];
-  streams = record { vl = 0; subLink = 0; sampling = false; size = 10; leastSize = 10; period = 12500; jitter = 0 } ∷ [];
-  ports = record { perByte = 1; delayLeast = 0; delayGreatest = 0 } ∷ record { perByte = 1; delayLeast = 0; delayGreatest = 0 } ∷ [];
-  hops = record { vl = 0; port = 0; parent = none } ∷ record { vl = 0; port = 1; parent = none } ∷ [];
+  systems = record { perbyte = 1 } ∷ [];
+  vls = record { system = 0; gap = 12500; sublinks = 1; lmax = 64 } ∷ [];
+  streams = record { vl = 0; sublink = 0; sampling = false; size = 10; least = 10; period = 12500; jitter = 0 } ∷ [];
+  ports = record { perbyte = 1; least = 0; greatest = 0 } ∷ record { perbyte = 1; least = 0; greatest = 0 } ∷ [];
+  hops = record { vl = 0; port = 0; parent = Root } ∷ record { vl = 0; port = 1; parent = Root } ∷ [];
 }
 
 abbrev pub sending : State

@@ -35,7 +35,7 @@ use Rattle.machine.proofs.Endless.{arrival, Endless, Good, good}
 -- lists that messages bring to a lane
 module _ (net : Network) (v i : ℕ) where
   abbrev pub test : Message → Bool
-  test m = eqb (vlOf net m) v && eqb (streamAt net (m .stream) .subLink) i
+  test m = eqb (vlOf net m) v && eqb (streamAt net (m .stream) .sublink) i
 
   pub record Brought (ms : List Message) (x : Packet) : Type 0 where
     pub message : Message
@@ -77,9 +77,9 @@ module _ (net : Network) (v i : ℕ) where
 
 -- the cost of a stream's flow, as packets times what the virtual server spends on each
 pub flow-cost : (net : Network) (s : ℕ)
-    → queueFlow net s .cost ≡ packets (streamAt net s .size) (vlAt net (streamAt net s .vl) .lmax) * (vlAt net (streamAt net s .vl) .subLinks * vlAt net (streamAt net s .vl) .gap)
+    → queueFlow net s .cost ≡ packets (streamAt net s .size) (vlAt net (streamAt net s .vl) .lmax) * (vlAt net (streamAt net s .vl) .sublinks * vlAt net (streamAt net s .vl) .gap)
 unfolding queueFlow
-flow-cost net s = mul-assoc (packets (streamAt net s .size) (vlAt net (streamAt net s .vl) .lmax)) (vlAt net (streamAt net s .vl) .subLinks) (vlAt net (streamAt net s .vl) .gap)
+flow-cost net s = mul-assoc (packets (streamAt net s .size) (vlAt net (streamAt net s .vl) .lmax)) (vlAt net (streamAt net s .vl) .sublinks) (vlAt net (streamAt net s .vl) .gap)
 
 module _ (net : Network) (sound : Sound net) (r : Run) (per : Endless net r) where
   pub reach-landed : (t : ℕ) → landed t (allSending net t (released r t) (ch net r t) (st net r t)) ≡ lands (λ u. ch net r u .send) (released r) t

@@ -55,13 +55,13 @@ periodic-map f (s ∷ l) h = (h s (List·Memᴰ·head refl), periodic-map f l (�
 
 module _ (net : Network) (sound : Sound net) (busy : Busy net) where
   -- ---- queues
-  pub on-sub-link : (v k s : ℕ) → List·Memᴰ s (streamsOn net v k) → (s < length (net .streams)) × (streamAt net s .vl ≡ v) × (streamAt net s .subLink ≡ k)
+  pub on-sub-link : (v k s : ℕ) → List·Memᴰ s (streamsOn net v k) → (s < length (net .streams)) × (streamAt net s .vl ≡ v) × (streamAt net s .sublink ≡ k)
   unfolding streamsOn
   on-sub-link v k s m =
       let a = eqb (streamAt net s .vl) v in
-      let b = eqb (streamAt net s .subLink) k in
-      let w = was-passing (λ s. eqb (streamAt net s .vl) v && eqb (streamAt net s .subLink) k) (length (net .streams)) s m in
-      (w .0, eqb→eq (streamAt net s .vl) v (left a b (w .1)), eqb→eq (streamAt net s .subLink) k (right a b (w .1)))
+      let b = eqb (streamAt net s .sublink) k in
+      let w = was-passing (λ s. eqb (streamAt net s .vl) v && eqb (streamAt net s .sublink) k) (length (net .streams)) s m in
+      (w .0, eqb→eq (streamAt net s .vl) v (left a b (w .1)), eqb→eq (streamAt net s .sublink) k (right a b (w .1)))
 
   queue-periodic : (v k : ℕ) → Periodic (queueFlows net v k)
   unfolding queueFlows queueFlow
@@ -77,7 +77,7 @@ module _ (net : Network) (sound : Sound net) (busy : Busy net) where
           (none-brought (queueFlow net) (figure [] (numberOr0 (busyLength []))) d)
       go (s ∷ l) e =
           let on = on-sub-link v k s (subst (λ (z : List ℕ). List·Memᴰ s z) (sym e) (List·Memᴰ·head refl)) in
-          let has : Has (queueLength net v k) = subst (λ (z : ℕ). Has (queueLength net v z)) (on .2) (subst (λ (z : ℕ). Has (queueLength net z (streamAt net s .subLink))) (on .1) (busy .queue s (on .0))) in
+          let has : Has (queueLength net v k) = subst (λ (z : ℕ). Has (queueLength net v z)) (on .2) (subst (λ (z : ℕ). Has (queueLength net z (streamAt net s .sublink))) (on .1) (busy .queue s (on .0))) in
           station-covers (queueFlows net v k) (queue-periodic v k) has d
 
   -- ---- ports
@@ -106,6 +106,6 @@ module _ (net : Network) (sound : Sound net) (busy : Busy net) where
       let v = hopAt net h .vl in
       let hv = sound .references .hop-vl h l in
       let a = cost-covered (hopFlow net (jitterOf net)) h (portStation net p) (hopsOn net p) (member-on-port net p h l refl) (port-covers p 0) in
-      let c : leastLine * portAt net p .perByte ≤ largestLine (vlAt net v .lmax) * portAt net p .perByte =
-      mul-le-mul-right (portAt net p .perByte) (largest-line-bounds (vlAt net v .lmax) (sound .lmax-least v hv) (sound .lmax-greatest v hv) .0) in
+      let c : leastLine * portAt net p .perbyte ≤ largestLine (vlAt net v .lmax) * portAt net p .perbyte =
+      mul-le-mul-right (portAt net p .perbyte) (largest-line-bounds (vlAt net v .lmax) (sound .lmax-least v hv) (sound .lmax-greatest v hv) .0) in
       omega (arith, a, c)

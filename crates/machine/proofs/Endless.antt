@@ -30,10 +30,10 @@ module _ (net : Network) where
     pub turns : (t e : ℕ) → List·Permᴰ (endJoined net t (r .choice t) (state net r t) e .lanes) (r .choice t .turns e)
     pub flight-least :
         (t h : ℕ) (f : Frame) → h < length (net .hops) → List·Memᴰ f (setsOut net t (r .choice t) (state net r t) h)
-        → portAt net (hopAt net h .port) .delayLeast ≤ r .choice t .flight h f
+        → portAt net (hopAt net h .port) .least ≤ r .choice t .flight h f
     pub flight-greatest :
         (t h : ℕ) (f : Frame) → h < length (net .hops) → List·Memᴰ f (setsOut net t (r .choice t) (state net r t) h)
-        → r .choice t .flight h f ≤ portAt net (hopAt net h .port) .delayGreatest
+        → r .choice t .flight h f ≤ portAt net (hopAt net h .port) .greatest
     pub receive-least :
         (t h : ℕ) (f : Frame) → leaf net h ≡ true → List·Memᴰ f (delivered net t (r .choice t) (state net r t) h) → net .receiveLeast ≤ r .choice t .receive h f
     pub receive-greatest :
@@ -58,7 +58,7 @@ module _ (net : Network) where
   pub record Good (r : Run) (t : ℕ) (m : Message) : Type 0 where
     pub stream : m .stream < length (net .streams)
     pub released : m .released ≡ t
-    pub least : streamAt net (m .stream) .leastSize ≤ m .size
+    pub least : streamAt net (m .stream) .least ≤ m .size
     pub most : m .size ≤ streamAt net (m .stream) .size
     pub delay-least : net .sendLeast ≤ r .choice t .send m
 
@@ -70,7 +70,7 @@ module _ (net : Network) where
       record {
         stream = subst (λ (n : ℕ). n < length (net .streams)) s (z .stream);
         released = w .released;
-        least = subst (λ (n : ℕ). streamAt net n .leastSize ≤ m .size) s (subst (λ (n : ℕ). streamAt net (w .release .stream) .leastSize ≤ n) (w .size) (z .least));
+        least = subst (λ (n : ℕ). streamAt net n .least ≤ m .size) s (subst (λ (n : ℕ). streamAt net (w .release .stream) .least ≤ n) (w .size) (z .least));
         most = subst (λ (n : ℕ). m .size ≤ streamAt net n .size) s (subst (λ (n : ℕ). n ≤ streamAt net (w .release .stream) .size) (w .size) (z .greatest));
         delay-least = e .send-least t m k;
       }

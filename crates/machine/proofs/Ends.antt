@@ -100,8 +100,8 @@ module _ (net : Network) (sound : Sound net) (r : Run) (per : Endless net r) (wi
 
   most-cost : (i : ℕ) → vlAt net i .system ≡ e → (f : Frame) → f .packet .bytes ≤ largestLine (vlAt net i .lmax) → endCost net e f ≤ sendMost net i
   unfolding sendMost
-  most-cost i q f h = subst (λ (z : ℕ). f .packet .bytes * systemAt net z .perByte ≤ largestLine (vlAt net i .lmax) * systemAt net (vlAt net i .system) .perByte) q
-      (mul-le-mul-right (systemAt net (vlAt net i .system) .perByte) h)
+  most-cost i q f h = subst (λ (z : ℕ). f .packet .bytes * systemAt net z .perbyte ≤ largestLine (vlAt net i .lmax) * systemAt net (vlAt net i .system) .perbyte) q
+      (mul-le-mul-right (systemAt net (vlAt net i .system) .perbyte) h)
 
   -- one VL brings at most one frame in a span below its gap
   one-each : (i : ℕ) → i < length (net .vls) → vlAt net i .system ≡ e → (x d : ℕ) → d < window → span (λ t. weigh (endCost net e) (new t i)) x d ≤ c i
@@ -134,7 +134,7 @@ module _ (net : Network) (sound : Sound net) (r : Run) (per : Endless net r) (wi
 
   least-cost : (f : Frame) → leastLine ≤ f .packet .bytes → sendLine net v ≤ endCost net e f
   unfolding sendLine
-  least-cost f h = mul-le-mul-right (systemAt net e .perByte) h
+  least-cost f h = mul-le-mul-right (systemAt net e .perbyte) h
 
   weights : (w : Frame → ℕ) (t : ℕ) → upto (λ u. weigh w (ofVl v (mux-out (endCost net e) s₀ new looked u))) t ≤ upto (λ u. weigh w (new u v)) t
   unfolding vlsOf

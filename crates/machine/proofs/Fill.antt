@@ -27,7 +27,7 @@ use Rattle.machine.proofs.Critical.{pattern-rate}
 module _ (net : Network) (sound : Sound net) (v s₁ d : ℕ) where
   -- the streams of the one queue of VL v
   abbrev pub tests : ℕ → Bool
-  tests s = eqb (streamAt net s .vl) v && eqb (streamAt net s .subLink) 0
+  tests s = eqb (streamAt net s .vl) v && eqb (streamAt net s .sublink) 0
 
   abbrev pub ns : List ℕ
   ns = passing tests (length (net .streams))
@@ -63,7 +63,7 @@ module _ (net : Network) (sound : Sound net) (v s₁ d : ℕ) where
   send t m = net .sendGreatest + (t - spread) - t
 
   abbrev pub flight : ℕ → ℕ → Frame → ℕ
-  flight t h f = portAt net (hopAt net h .port) .delayLeast
+  flight t h f = portAt net (hopAt net h .port) .least
 
   abbrev pub receive : ℕ → ℕ → Frame → ℕ
   receive t h f = net .receiveLeast
@@ -143,7 +143,7 @@ module _ (net : Network) (sound : Sound net) (v s₁ d : ℕ) where
     rule = rule;
     send-least = λ t m. omega (arith, sound .send);
     send-greatest = λ t m. omega (arith, sound .send);
-    flight-least = λ t h f l. le-refl (portAt net (hopAt net h .port) .delayLeast);
+    flight-least = λ t h f l. le-refl (portAt net (hopAt net h .port) .least);
     flight-greatest = λ t h f l. sound .port-delay (hopAt net h .port) (sound .references .hop-port h l);
     receive-least = λ t h f. le-refl (net .receiveLeast);
     receive-greatest = λ t h f. sound .receive;

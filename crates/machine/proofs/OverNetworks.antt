@@ -59,7 +59,7 @@ module _ (net : Network) (sound : Sound net) (busy : Busy net) where
   reaches s h one =
       let v = streamAt net s .vl in
       let hv = sound .references .stream-vl s h in
-      let sub : streamAt net s .subLink ≡ 0 = omega (arith, sound .references .stream-sub-link s h) in
+      let sub : streamAt net s .sublink ≡ 0 = omega (arith, sound .references .stream-sub-link s h) in
       let has : Has (busyLength (queueFlows net v 0)) = subst (λ (k : ℕ). Has (busyLength (queueFlows net v k))) sub (busy .queue s h) in
       let a = is-attained (queueFlows net v 0) (has .length) (has .is) in
       let at : brought (queueFlows net v 0) (a .span) ≡ queueStation net v 0 + a .span =
@@ -73,17 +73,17 @@ module _ (net : Network) (sound : Sound net) (busy : Busy net) where
       let v = streamAt net s .vl in
       let hv = sound .references .stream-vl s h in
       let p : 1 ≤ packets (streamAt net s .size) (vlAt net v .lmax) = packets-pos (vlAt net v .lmax) (streamAt net s .size) (sound .lmax-least v hv) (omega (arith, sound .least-size s h, sound .size s h)) in
-      let n : 1 ≤ vlAt net v .subLinks = omega (arith, sound .references .stream-sub-link s h) in
-      let a : 1 * vlAt net v .gap ≤ vlAt net v .subLinks * vlAt net v .gap = mul-le-mul-right (vlAt net v .gap) n in
-      let b : 1 * (vlAt net v .subLinks * vlAt net v .gap) ≤ packets (streamAt net s .size) (vlAt net v .lmax) * (vlAt net v .subLinks * vlAt net v .gap) = mul-le-mul-right (vlAt net v .subLinks * vlAt net v .gap) p in
+      let n : 1 ≤ vlAt net v .sublinks = omega (arith, sound .references .stream-sub-link s h) in
+      let a : 1 * vlAt net v .gap ≤ vlAt net v .sublinks * vlAt net v .gap = mul-le-mul-right (vlAt net v .gap) n in
+      let b : 1 * (vlAt net v .sublinks * vlAt net v .gap) ≤ packets (streamAt net s .size) (vlAt net v .lmax) * (vlAt net v .sublinks * vlAt net v .gap) = mul-le-mul-right (vlAt net v .sublinks * vlAt net v .gap) p in
       omega (arith, flow-cost net s)
 
   fits : Nothing-cut-off net
   unfolding queueStation queueFlows streamsOn
   fits s h =
       let v = streamAt net s .vl in
-      let k = streamAt net s .subLink in
-      let listed = is-passing (λ z. eqb (streamAt net z .vl) v && eqb (streamAt net z .subLink) k) (length (net .streams)) s h (both (eqb v v) (eqb k k) (eqb-refl v) (eqb-refl k)) in
+      let k = streamAt net s .sublink in
+      let listed = is-passing (λ z. eqb (streamAt net z .vl) v && eqb (streamAt net z .sublink) k) (length (net .streams)) s h (both (eqb v v) (eqb k k) (eqb-refl v) (eqb-refl k)) in
       let c : queueFlow net s .cost ≤ queueStation net v k = cost-covered (queueFlow net) s (queueStation net v k) (streamsOn net v k) listed (queue-covers net sound busy v k 0) in
       omega (arith, c, gap-in-cost s h)
 

@@ -12,7 +12,7 @@ use lib.Dec.{eqb, T, eqb-refl}
 use lib.ListN.{length}
 use Rattle.frame.specs.Frame.{leastLine, largestLine}
 use Rattle.frame.proofs.FrameLaws.{least-line-is}
-use Rattle.network.specs.Network.{Network, vlAt, portAt, hopAt}
+use Rattle.network.specs.Network.{Network, vlAt, portAt, hopAt, parentAt}
 use Rattle.network.specs.Views.{hopsOn, leaf}
 use Rattle.network.proofs.PortLaws.{on-port}
 use Rattle.rows.specs.Links.{hopMost, hopLine}
@@ -56,11 +56,11 @@ module _ (net : Network) (sound : Sound net) (r : Run) (per : Endless net r) (wi
   port-of h = hopAt net h .port
 
   -- from what sets out to a hop to what reaches its port of it
-  flight : (h : ℕ) → h < length (net .hops) → Delay (source net r h) (into net r h) (portAt net (port-of h) .delayLeast) (portAt net (port-of h) .delayGreatest)
+  flight : (h : ℕ) → h < length (net .hops) → Delay (source net r h) (into net r h) (portAt net (port-of h) .least) (portAt net (port-of h) .greatest)
   unfolding hopsOn
   flight h hh = looser (omega arith) (omega arith)
       (delay-same (λ t. refl) (λ t. lands-is net r h t)
-      (on-the-way (λ u. ch net r u .flight h) (source net r h) (portAt net (port-of h) .delayLeast) (portAt net (port-of h) .delayGreatest) (λ t f m. (per .flight-least t h f hh m, per .flight-greatest t h f hh m)))
+      (on-the-way (λ u. ch net r u .flight h) (source net r h) (portAt net (port-of h) .least) (portAt net (port-of h) .greatest) (λ t f m. (per .flight-least t h f hh m, per .flight-greatest t h f hh m)))
       then delay-same (λ t. hops-at h (λ g. eqb (port-of g) (port-of h)) (λ g. lands-at net r g t) (eqb-refl (port-of h)) (length (net .hops)) hh) (λ t. refl)
       (delay-chosen (λ c. eqb (c .hop) h) (λ c. c .frame) (reordered (λ t. per .enter t (port-of h)))))
 
@@ -101,13 +101,13 @@ module _ (net : Network) (sound : Sound net) (r : Run) (per : Endless net r) (wi
         record { hop = hop′; here = here′; there = there′; listed = subst (λ (n : ℕ). List·Memᴰ n ns) e (w .1); bytes-least = f .bytes-least; bytes-most = f .bytes-most }
 
     abbrev lo : ℕ
-    lo = leastLine * portAt net p .perByte
+    lo = leastLine * portAt net p .perbyte
 
     costs : (t : ℕ) (c : Copy) → List·Memᴰ c (ins t) → (0 < portCost net p c) × (lo ≤ portCost net p c)
     costs t c m =
         let k = known t c m in (
-          mul-pos (omega (arith, k .bytes-least, least-line-is)) (subst (λ (n : ℕ). 0 < portAt net n .perByte) (k .here) (sound .port-speed (port-of (c .hop)) (sound .references .hop-port (c .hop) (k .hop)))),
-          mul-le-mul-right (portAt net p .perByte) (k .bytes-least),
+          mul-pos (omega (arith, k .bytes-least, least-line-is)) (subst (λ (n : ℕ). 0 < portAt net n .perbyte) (k .here) (sound .port-speed (port-of (c .hop)) (sound .references .hop-port (c .hop) (k .hop)))),
+          mul-le-mul-right (portAt net p .perbyte) (k .bytes-least),
         )
 
     abbrev classes : List ℕ → List (Class Copy)
@@ -126,7 +126,7 @@ module _ (net : Network) (sound : Sound net) (r : Run) (per : Endless net r) (wi
     unfolding hopFlow hopMost
     covered t c m =
         let k = known t c m in
-        covered-in c (subst (λ (n : ℕ). portCost net p c ≤ largestLine (vlAt net (hopAt net (c .hop) .vl) .lmax) * portAt net n .perByte) (sym (k .here)) (mul-le-mul-right (portAt net p .perByte) (k .bytes-most))) ns (k .listed)
+        covered-in c (subst (λ (n : ℕ). portCost net p c ≤ largestLine (vlAt net (hopAt net (c .hop) .vl) .lmax) * portAt net n .perbyte) (sym (k .here)) (mul-le-mul-right (portAt net p .perbyte) (k .bytes-most))) ns (k .listed)
 
     jitter : (h : ℕ) → h < length (net .hops) → 0 + (win .late h - win .soon h) ≡ jitterOf net h
     jitter h hh = omega (arith, win .spread h hh)
@@ -172,16 +172,16 @@ module _ (net : Network) (sound : Sound net) (r : Run) (per : Endless net r) (wi
     unfolding hopLine
     hop-delay h e = delay-same (λ t. refl) (λ t. left-is net r h t)
         (delay-chosen (λ c. eqb (c .hop) h) (λ c. c .frame)
-        (subst (λ (q : ℕ). Delay (λ t. ch net r t .enter q) (fifo-out (portCost net q) (λ t. ch net r t .enter q)) (leastLine * portAt net q .perByte) (portStation net q)) (sym e) port-delay))
+        (subst (λ (q : ℕ). Delay (λ t. ch net r t .enter q) (fifo-out (portCost net q) (λ t. ch net r t .enter q)) (leastLine * portAt net q .perbyte) (portStation net q)) (sym e) port-delay))
 
   -- ---- all ports, from the lowest number on
   abbrev Arrive : ℕ → Type 0
   Arrive p = (h : ℕ) → h < length (net .hops) → port-of h ≡ p → Delay (hand net r (hopAt net h .vl)) (into net r h) (win .soon h) (win .late h)
 
   reach-hop : (p : ℕ) → ((q : ℕ) → q < p → Arrive q) → Arrive p
-  reach-hop p below h hh e = go (hopAt net h .parent) refl
+  reach-hop p below h hh e = go (parentAt net h) refl
     where
-      go : (o : Option ℕ) → hopAt net h .parent ≡ o → Delay (hand net r (hopAt net h .vl)) (into net r h) (win .soon h) (win .late h)
+      go : (o : Option ℕ) → parentAt net h ≡ o → Delay (hand net r (hopAt net h .vl)) (into net r h) (win .soon h) (win .late h)
       go none k =
           let s = win .soon-is h hh ∙ ap (soon-by net (win .soon) h) k in
           let l = win .late-is h hh ∙ ap (late-by net (win .late) h) k in

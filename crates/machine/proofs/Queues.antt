@@ -47,13 +47,13 @@ module _ (net : Network) (sound : Sound net) (r : Run) (per : Endless net r) whe
   -- ---- one lane
   module _ (v i : ℕ) (hv : v < length (net .vls)) where
     abbrev nb : ℕ
-    nb = vlAt net v .subLinks * vlAt net v .gap
+    nb = vlAt net v .sublinks * vlAt net v .gap
 
     abbrev msgs : ℕ → List Message
     msgs t = chosen (test net v i) (λ m. m) (ch net r t .reach)
 
     abbrev ns : List ℕ
-    ns = passing (λ s. eqb (streamAt net s .vl) v && eqb (streamAt net s .subLink) i) (length (net .streams))
+    ns = passing (λ s. eqb (streamAt net s .vl) v && eqb (streamAt net s .sublink) i) (length (net .streams))
 
     abbrev cost : Message → ℕ
     cost m = length (packetsIn net m) * nb
@@ -63,12 +63,12 @@ module _ (net : Network) (sound : Sound net) (r : Run) (per : Endless net r) whe
 
     cost-least : (m : Message) (u : ℕ) → Good net r u m → T (test net v i m) → cost m ≤ queueFlow net (m .stream) .cost
     cost-least m u g h =
-        let e : vlOf net m ≡ v = eqb→eq (vlOf net m) v (left (eqb (vlOf net m) v) (eqb (streamAt net (m .stream) .subLink) i) h) in
+        let e : vlOf net m ≡ v = eqb→eq (vlOf net m) v (left (eqb (vlOf net m) v) (eqb (streamAt net (m .stream) .sublink) i) h) in
         let l = packets-length m (g .stream) (omega (arith, sound .least-size (m .stream) (g .stream), g .least)) in
         let p = packets-mono (vlAt net (vlOf net m) .lmax) (m .size) (streamAt net (m .stream) .size) (sound .lmax-least (vlOf net m) (sound .references .stream-vl (m .stream) (g .stream))) (g .most) in
         let q : length (packetsIn net m) ≤ packets (streamAt net (m .stream) .size) (vlAt net (vlOf net m) .lmax) = omega arith in
-        subst (λ (w : ℕ). length (packetsIn net m) * (vlAt net w .subLinks * vlAt net w .gap) ≤ queueFlow net (m .stream) .cost) e
-        (le-trans (mul-le-mul-right (vlAt net (vlOf net m) .subLinks * vlAt net (vlOf net m) .gap) q) (le-of-eq (sym (flow-cost net (m .stream)))))
+        subst (λ (w : ℕ). length (packetsIn net m) * (vlAt net w .sublinks * vlAt net w .gap) ≤ queueFlow net (m .stream) .cost) e
+        (le-trans (mul-le-mul-right (vlAt net (vlOf net m) .sublinks * vlAt net (vlOf net m) .gap) q) (le-of-eq (sym (flow-cost net (m .stream)))))
 
     covered-in : (m : Message) → cost m ≤ queueFlow net (m .stream) .cost → (l : List ℕ) → List·Memᴰ (m .stream) l → Covered cost (classes net v i l) m
     covered-in m h (s ∷ l) (List·Memᴰ·head e) = inl (subst (λ (n : ℕ). T (eqb (m .stream) n) × (cost m ≤ queueFlow net n .cost)) e (lib.Dec.eqb-refl (m .stream), h))
@@ -80,7 +80,7 @@ module _ (net : Network) (sound : Sound net) (r : Run) (per : Endless net r) whe
         let k′ : List·Memᴰ m (ch net r t .reach) = subst (λ (n : Message). List·Memᴰ n (ch net r t .reach)) (o .is) (o .there) in
         let h′ : T (test net v i m) = subst (λ (n : Message). T (test net v i n)) (o .is) (o .passes) in
         let g = reach-at net sound r per t m k′ .1 in
-        covered-in m (cost-least m (m .released) g h′) ns (is-passing (λ s. eqb (streamAt net s .vl) v && eqb (streamAt net s .subLink) i) (length (net .streams)) (m .stream) (g .stream) h′)
+        covered-in m (cost-least m (m .released) g h′) ns (is-passing (λ s. eqb (streamAt net s .vl) v && eqb (streamAt net s .sublink) i) (length (net .streams)) (m .stream) (g .stream) h′)
 
     kept-in : (l : List ℕ) → ((s : ℕ) → List·Memᴰ s l → s < length (net .streams)) → Kept cost msgs (classes net v i l)
     kept-in [] h = tt
@@ -91,7 +91,7 @@ module _ (net : Network) (sound : Sound net) (r : Run) (per : Endless net r) whe
     )
 
     in-ns : (s : ℕ) → List·Memᴰ s ns → s < length (net .streams)
-    in-ns s k = was-passing (λ n. eqb (streamAt net n .vl) v && eqb (streamAt net n .subLink) i) (length (net .streams)) s k .0
+    in-ns s k = was-passing (λ n. eqb (streamAt net n .vl) v && eqb (streamAt net n .sublink) i) (length (net .streams)) s k .0
 
     abbrev load : ℕ → ℕ
     load t = length (news net r v t i) * nb
@@ -109,7 +109,7 @@ module _ (net : Network) (sound : Sound net) (r : Run) (per : Endless net r) whe
   -- ---- one VL
   module _ (v : ℕ) where
     abbrev n : ℕ
-    n = vlAt net v .subLinks
+    n = vlAt net v .sublinks
 
     abbrev gap : ℕ
     gap = vlAt net v .gap
@@ -127,14 +127,14 @@ module _ (net : Network) (sound : Sound net) (r : Run) (per : Endless net r) whe
       pub is : List·Memᴰ x (packetsIn net (x .message))
       pub reached : List·Memᴰ (x .message) (ch net r (arrival r (x .message)) .reach)
 
-    pub brought-facts : (t i : ℕ) (x : Packet) → List·Memᴰ x (news net r v t i) → Origin x × (arrival r (x .message) ≡ t) × (streamAt net (x .message .stream) .subLink ≡ i)
+    pub brought-facts : (t i : ℕ) (x : Packet) → List·Memᴰ x (news net r v t i) → Origin x × (arrival r (x .message) ≡ t) × (streamAt net (x .message .stream) .sublink ≡ i)
     brought-facts t i x k =
         let b = was-brought net v i (ch net r t .reach) x k in
         let m = b .message in
         let a = reach-at net sound r per t m (b .there) in
         let e : x .message ≡ m = was-number m 0 (packetLines (m .size) (vlAt net (vlOf net m) .lmax)) x (b .is) .message in
-        let ev = eqb→eq (vlOf net m) v (left (eqb (vlOf net m) v) (eqb (streamAt net (m .stream) .subLink) i) (b .passes)) in
-        let es = eqb→eq (streamAt net (m .stream) .subLink) i (right (eqb (vlOf net m) v) (eqb (streamAt net (m .stream) .subLink) i) (b .passes)) in (
+        let ev = eqb→eq (vlOf net m) v (left (eqb (vlOf net m) v) (eqb (streamAt net (m .stream) .sublink) i) (b .passes)) in
+        let es = eqb→eq (streamAt net (m .stream) .sublink) i (right (eqb (vlOf net m) v) (eqb (streamAt net (m .stream) .sublink) i) (b .passes)) in (
           record {
             message = subst (λ (z : Message). Good net r (z .released) z) (sym e) (a .1);
             vl = ap (vlOf net) e ∙ ev;
@@ -142,7 +142,7 @@ module _ (net : Network) (sound : Sound net) (r : Run) (per : Endless net r) whe
             reached = subst (λ (z : Message). List·Memᴰ z (ch net r (arrival r z) .reach)) (sym e) (subst (λ (u : ℕ). List·Memᴰ m (ch net r u .reach)) (sym (a .0)) (b .there));
           },
           ap (λ (z : Message). arrival r z) e ∙ a .0,
-          ap (λ (z : Message). streamAt net (z .stream) .subLink) e ∙ es,
+          ap (λ (z : Message). streamAt net (z .stream) .sublink) e ∙ es,
         )
 
     size₀ : length (s₀ .lanes) ≡ n
@@ -170,7 +170,7 @@ module _ (net : Network) (sound : Sound net) (r : Run) (per : Endless net r) whe
     module _ (win : Windows net) (hv : v < length (net .vls)) where
       -- by when the virtual server is done with a packet, and from when on it may be handed over
       abbrev by : Packet → ℕ
-      by x = arrival r (x .message) + queueStation net v (streamAt net (x .message .stream) .subLink)
+      by x = arrival r (x .message) + queueStation net v (streamAt net (x .message .stream) .sublink)
 
       low-number : (m : Message) (k : ℕ) (bs : List ℕ) (u : ℕ) → arrival r m + k * gap ≤ u → Low n gap by from u (number m k bs)
       unfolding Low
@@ -273,12 +273,12 @@ module _ (net : Network) (sound : Sound net) (r : Run) (per : Endless net r) whe
       pub hand-over : (a : ℕ) (m : Message) (k : ℕ) → List·Memᴰ m (ch net r a .reach) → vlOf net m ≡ v → k < length (packetsIn net m) → Over m k a
       hand-over a m k j e h =
           let g = reach-at net sound r per a m j .1 in
-          let i = streamAt net (m .stream) .subLink in
+          let i = streamAt net (m .stream) .sublink in
           let lm = vlAt net (vlOf net m) .lmax in
           let b = is-number m 0 (packetLines (m .size) lm) k (omega (arith, length-number m 0 (packetLines (m .size) lm))) in
           let x : Packet = record { message = m; index = 0 + k; bytes = b .0 } in
           let test-ok : T (test net v i m) = both (eqb (vlOf net m) v) (eqb i i) (eq→eqb (vlOf net m) v e) (lib.Dec.eqb-refl i) in
-          let o = goes i (subst (λ (w : ℕ). i < vlAt net w .subLinks) e (sound .references .stream-sub-link (m .stream) (g .stream))) a x (is-brought net v i (ch net r a .reach) m x j test-ok (b .1)) in
+          let o = goes i (subst (λ (w : ℕ). i < vlAt net w .sublinks) e (sound .references .stream-sub-link (m .stream) (g .stream))) a x (is-brought net v i (ch net r a .reach) m x j test-ok (b .1)) in
           let f : Frame = record { packet = x; vl = v; born = o .at } in
           record {
             frame = f;

@@ -44,7 +44,7 @@ module _ (net : Network) (sound : Sound net) (win : Windows net) (aim : Aim net)
   abbrev hv : v < length (net .vls)
   hv = aim .row
 
-  abbrev one : vlAt net v .subLinks ≡ 1
+  abbrev one : vlAt net v .sublinks ≡ 1
   one = aim .one-sub-link
 
   abbrev s₁ : ℕ
@@ -212,7 +212,7 @@ module _ (net : Network) (sound : Sound net) (win : Windows net) (aim : Aim net)
   one-lane : first .lanes ≡ lane [] ∷ []
   unfolding passing
   one-lane =
-      ap (λ (f : ℕ → ℕ). lanesOf (fromTurn (f v) (passing (λ i. true) (vlAt net v .subLinks))))
+      ap (λ (f : ℕ → ℕ). lanesOf (fromTurn (f v) (passing (λ i. true) (vlAt net v .sublinks))))
       (auto-first-sub net (fill net sound v s₁ d) (send net sound v s₁ d) (flight net sound v s₁ d) (receive net sound v s₁ d) (λ w. 0) (λ e. 0) (behind mine))
       ∙ ap (λ (z : ℕ). lanesOf (fromTurn 0 (passing (λ i. true) z))) one
 
@@ -231,7 +231,7 @@ module _ (net : Network) (sound : Sound net) (win : Windows net) (aim : Aim net)
       let e : suc end + suc k ≡ suc (suc end + k) = omega arith in
       ap (upto comes) e ∙ (omega (arith, no-others k, ap length (no-more (suc end + k) (omega arith))))
 
-  pub reached : Reaches net s₁ (queueStation net (streamAt net s₁ .vl) (streamAt net s₁ .subLink) - vlAt net (streamAt net s₁ .vl) .gap)
+  pub reached : Reaches net s₁ (queueStation net (streamAt net s₁ .vl) (streamAt net s₁ .sublink) - vlAt net (streamAt net s₁ .vl) .gap)
   unfolding upto lane-sum handed
   reached =
       let some-come = P-pos net sound win aim in
@@ -245,11 +245,11 @@ module _ (net : Network) (sound : Sound net) (win : Windows net) (aim : Aim net)
       let is : x .0 ≡ x₁ = last-out gap first (news net run v) one-lane x₁ end (news-end .0) (news-end .1) no-more t (x .0) after-last (x .1)
       (λ l e. omega (arith, conserved-one (suc t), ap (lane-sum length) e, u .2, whole)) in
       let q = bounds net sound run ok v win hv t x₁ (x .1 ∙ ap (λ (z : Packet). some z) is) in
-      let sub : streamAt net s₁ .subLink ≡ 0 = omega (arith, sound .references .stream-sub-link s₁ on, ap (λ (z : ℕ). vlAt net z .subLinks) of, one) in
-      let fs : queueStation net v (streamAt net (victim .stream) .subLink) ≡ queueStation net v 0 =
-      ap (λ (z : ℕ). queueStation net v (streamAt net z .subLink)) victim-stream ∙ ap (queueStation net v) sub in
-      let fq : queueStation net (streamAt net s₁ .vl) (streamAt net s₁ .subLink) ≡ queueStation net v 0 =
-      ap (λ (z : ℕ). queueStation net z (streamAt net s₁ .subLink)) of ∙ ap (queueStation net v) sub in
+      let sub : streamAt net s₁ .sublink ≡ 0 = omega (arith, sound .references .stream-sub-link s₁ on, ap (λ (z : ℕ). vlAt net z .sublinks) of, one) in
+      let fs : queueStation net v (streamAt net (victim .stream) .sublink) ≡ queueStation net v 0 =
+      ap (λ (z : ℕ). queueStation net v (streamAt net z .sublink)) victim-stream ∙ ap (queueStation net v) sub in
+      let fq : queueStation net (streamAt net s₁ .vl) (streamAt net s₁ .sublink) ≡ queueStation net v 0 =
+      ap (λ (z : ℕ). queueStation net z (streamAt net s₁ .sublink)) of ∙ ap (queueStation net v) sub in
       let fb : vlAt net (streamAt net s₁ .vl) .gap ≡ gap = ap (λ (z : ℕ). vlAt net z .gap) of in
       let w = arithmetic (queueStation net v 0) gap all t (net .sendGreatest) d after-goal (omega (arith, q .0, victim-at, fs)) (worth-gap net sound win aim) some-come in
       record {

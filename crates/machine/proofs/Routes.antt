@@ -13,7 +13,7 @@ use lib.ListN.{length}
 use Rattle.base.specs.Tabulate.{passing, total}
 use Rattle.frame.specs.Frame.{leastLine, largestLine}
 use Rattle.frame.proofs.FrameLaws.{largest-line-bounds}
-use Rattle.network.specs.Network.{Network, systemAt, vlAt, streamAt, portAt, hopAt}
+use Rattle.network.specs.Network.{Network, systemAt, vlAt, streamAt, portAt, hopAt, parentAt}
 use Rattle.network.proofs.RouteLaws.{route-of-root, route-of-parent}
 use Rattle.rows.specs.Links.{sendMost, sendLine, sendSpread, sendSum, muxWait, hopLine, hopSpread}
 use Rattle.network.specs.Views.{vlsOf, route}
@@ -84,26 +84,26 @@ module _ (net : Network) (sound : Sound net) (busy : Busy net) where
     over none = 0
     over (some g) = weigh c (route net g)
 
-    pub route-sum : (h : ℕ) → h < length (net .hops) → weigh c (route net h) ≡ c h + over (hopAt net h .parent)
+    pub route-sum : (h : ℕ) → h < length (net .hops) → weigh c (route net h) ≡ c h + over (parentAt net h)
     unfolding total route
-    route-sum h l = go (hopAt net h .parent) refl
+    route-sum h l = go (parentAt net h) refl
       where
-        go : (o : Option ℕ) → hopAt net h .parent ≡ o → weigh c (route net h) ≡ c h + over o
+        go : (o : Option ℕ) → parentAt net h ≡ o → weigh c (route net h) ≡ c h + over o
         go none e = ap (weigh c) (route-of-root net 7 h e)
         go (some g) e = ap (weigh c) (route-of-parent net (sound .references) h l g e)
 
   -- ---- windows
   abbrev most-at : ℕ → ℕ
-  most-at g = portAt net (hopAt net g .port) .delayGreatest + figureOf net g
+  most-at g = portAt net (hopAt net g .port) .greatest + figureOf net g
 
   abbrev least-at : ℕ → ℕ
-  least-at g = hopLine net g + portAt net (hopAt net g .port) .delayLeast
+  least-at g = hopLine net g + portAt net (hopAt net g .port) .least
 
   soon : ℕ → ℕ
-  soon h = sendLine net (hopAt net h .vl) + over least-at (hopAt net h .parent) + portAt net (hopAt net h .port) .delayLeast
+  soon h = sendLine net (hopAt net h .vl) + over least-at (parentAt net h) + portAt net (hopAt net h .port) .least
 
   late : ℕ → ℕ
-  late h = sendSum net (vlAt net (hopAt net h .vl) .system) + over most-at (hopAt net h .parent) + portAt net (hopAt net h .port) .delayGreatest
+  late h = sendSum net (vlAt net (hopAt net h .vl) .system) + over most-at (parentAt net h) + portAt net (hopAt net h .port) .greatest
 
   figure-is : (h : ℕ) → figureOf net h ≡ portStation net (hopAt net h .port)
   unfolding figureOf portStation
@@ -117,24 +117,24 @@ module _ (net : Network) (sound : Sound net) (busy : Busy net) where
   unfolding late
   late-route h l = omega (arith, route-sum most-at h l, figure-is h)
 
-  row-of-parent : (h g : ℕ) → h < length (net .hops) → hopAt net h .parent ≡ some g → g < length (net .hops)
+  row-of-parent : (h g : ℕ) → h < length (net .hops) → parentAt net h ≡ some g → g < length (net .hops)
   row-of-parent h g l e = omega (arith, sound .references .parent-earlier h g l e)
 
-  soon-is : (h : ℕ) → h < length (net .hops) → soon h ≡ soon-by net soon h (hopAt net h .parent)
+  soon-is : (h : ℕ) → h < length (net .hops) → soon h ≡ soon-by net soon h (parentAt net h)
   unfolding soon
-  soon-is h l = go (hopAt net h .parent) refl
+  soon-is h l = go (parentAt net h) refl
     where
-      go : (o : Option ℕ) → hopAt net h .parent ≡ o
-          → sendLine net (hopAt net h .vl) + over least-at o + portAt net (hopAt net h .port) .delayLeast ≡ soon-by net soon h o
+      go : (o : Option ℕ) → parentAt net h ≡ o
+          → sendLine net (hopAt net h .vl) + over least-at o + portAt net (hopAt net h .port) .least ≡ soon-by net soon h o
       go none e = omega arith
       go (some g) e = omega (arith, ap (sendLine net) (sound .references .parent-vl h g l e), soon-route g (row-of-parent h g l e))
 
-  late-is : (h : ℕ) → h < length (net .hops) → late h ≡ late-by net late h (hopAt net h .parent)
+  late-is : (h : ℕ) → h < length (net .hops) → late h ≡ late-by net late h (parentAt net h)
   unfolding late
-  late-is h l = go (hopAt net h .parent) refl
+  late-is h l = go (parentAt net h) refl
     where
-      go : (o : Option ℕ) → hopAt net h .parent ≡ o
-          → sendSum net (vlAt net (hopAt net h .vl) .system) + over most-at o + portAt net (hopAt net h .port) .delayGreatest ≡ late-by net late h o
+      go : (o : Option ℕ) → parentAt net h ≡ o
+          → sendSum net (vlAt net (hopAt net h .vl) .system) + over most-at o + portAt net (hopAt net h .port) .greatest ≡ late-by net late h o
       go none e = omega arith
       go (some g) e =
           omega (arith, ap (λ (v : ℕ). sendSum net (vlAt net v .system)) (sound .references .parent-vl h g l e), late-route g (row-of-parent h g l e))
@@ -145,15 +145,15 @@ module _ (net : Network) (sound : Sound net) (busy : Busy net) where
   send-spread v h =
       let z : ℕ = largestLine (vlAt net v .lmax) - leastLine in
       let i : largestLine (vlAt net v .lmax) ≡ leastLine + z = omega (arith, largest-line-bounds (vlAt net v .lmax) (sound .lmax-least v h) (sound .lmax-greatest v h) .0) in
-      omega (arith, ap (λ (y : ℕ). y * systemAt net (vlAt net v .system) .perByte) i)
+      omega (arith, ap (λ (y : ℕ). y * systemAt net (vlAt net v .system) .perbyte) i)
 
   -- 01's jitter is the spread of the window
   spread : (n h : ℕ) → h < n → h < length (net .hops) → late h ≡ soon h + jitterOf net h
   unfolding rootJitter childJitter hopSpread
   spread zero h k l = absurd (omega arith)
-  spread (suc n) h k l = go (λ g. spread n g) (hopAt net h .parent) refl
+  spread (suc n) h k l = go (λ g. spread n g) (parentAt net h) refl
     where
-      go : ((g : ℕ) → g < n → g < length (net .hops) → late g ≡ soon g + jitterOf net g) → (o : Option ℕ) → hopAt net h .parent ≡ o → late h ≡ soon h + jitterOf net h
+      go : ((g : ℕ) → g < n → g < length (net .hops) → late g ≡ soon g + jitterOf net g) → (o : Option ℕ) → parentAt net h ≡ o → late h ≡ soon h + jitterOf net h
       go f none e =
           let v = hopAt net h .vl in
           let hv = sound .references .hop-vl h l in
@@ -190,7 +190,7 @@ module _ (net : Network) (sound : Sound net) (busy : Busy net) where
     port-covers = port-covers net sound busy;
   }
 
-  pub queue-is : (s : ℕ) → queueStation net (streamAt net s .vl) (streamAt net s .subLink) - vlAt net (streamAt net s .vl) .gap ≡ queueOf net s
+  pub queue-is : (s : ℕ) → queueStation net (streamAt net s .vl) (streamAt net s .sublink) - vlAt net (streamAt net s .vl) .gap ≡ queueOf net s
   unfolding queueOf queueFigure queueStation
   queue-is s = refl
 

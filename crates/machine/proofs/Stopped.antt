@@ -31,7 +31,7 @@ use Rattle.machine.proofs.Auto.{full}
 module _ (net : Network) (sound : Sound net) (r : Run) (n : ℕ) (per : PermittedBelow net r n) where
   abbrev rest : ℕ → State → Choice
   rest t s =
-      full net (λ u. []) (λ u m. net .sendLeast) (λ u h f. portAt net (hopAt net h .port) .delayLeast) (λ u h f. net .receiveLeast) (λ v. 0) (λ e. 0) (λ l. l) t s
+      full net (λ u. []) (λ u m. net .sendLeast) (λ u h f. portAt net (hopAt net h .port) .least) (λ u h f. net .receiveLeast) (λ v. 0) (λ e. 0) (λ l. l) t s
 
   choose : ℕ → State → Choice
   choose t s = cond (leb (suc t) n) (r .choice t) (rest t s)
@@ -128,9 +128,9 @@ module _ (net : Network) (sound : Sound net) (r : Run) (n : ℕ) (per : Permitte
     enter = λ t p. each (λ t ms c s. List·Permᴰ (reaches net t c s p) (c .enter p)) (λ t h. per .enter t p h) (λ t h. Permᴰ·refl (reaches net t (rest t (ext t)) (ext t) p)) t;
     turns = λ t e. each (λ t ms c s. List·Permᴰ (endJoined net t c s e .lanes) (c .turns e)) (λ t h. per .turns t e h)
         (λ t h. Permᴰ·refl (endJoined net t (rest t (ext t)) (ext t) e .lanes)) t;
-    flight-least = λ t h f l. each (λ t ms c s. List·Memᴰ f (setsOut net t c s h) → portAt net (hopAt net h .port) .delayLeast ≤ c .flight h f)
-        (λ t i. per .flight-least t h f i l) (λ t i k. le-refl (portAt net (hopAt net h .port) .delayLeast)) t;
-    flight-greatest = λ t h f l. each (λ t ms c s. List·Memᴰ f (setsOut net t c s h) → c .flight h f ≤ portAt net (hopAt net h .port) .delayGreatest)
+    flight-least = λ t h f l. each (λ t ms c s. List·Memᴰ f (setsOut net t c s h) → portAt net (hopAt net h .port) .least ≤ c .flight h f)
+        (λ t i. per .flight-least t h f i l) (λ t i k. le-refl (portAt net (hopAt net h .port) .least)) t;
+    flight-greatest = λ t h f l. each (λ t ms c s. List·Memᴰ f (setsOut net t c s h) → c .flight h f ≤ portAt net (hopAt net h .port) .greatest)
         (λ t i. per .flight-greatest t h f i l) (λ t i k. sound .port-delay (hopAt net h .port) (sound .references .hop-port h l)) t;
     receive-least = λ t h f l. each (λ t ms c s. List·Memᴰ f (delivered net t c s h) → net .receiveLeast ≤ c .receive h f)
         (λ t i. per .receive-least t h f i l) (λ t i k. le-refl (net .receiveLeast)) t;
@@ -174,7 +174,7 @@ module _ (net : Network) (sound : Sound net) (r : Run) (n : ℕ) (per : Permitte
     pub only : (u : ℕ) → u < n → List·Memᴰ (x .message) (r .choice u .reach) → u ≡ came
     pub stream : x .message .stream < length (net .streams)
     pub not-before : came ≤ t
-    pub at-most : t + vlAt net (vlOf net (x .message)) .gap ≤ came + queueStation net (vlOf net (x .message)) (streamAt net (x .message .stream) .subLink)
+    pub at-most : t + vlAt net (vlOf net (x .message)) .gap ≤ came + queueStation net (vlOf net (x .message)) (streamAt net (x .message .stream) .sublink)
 
   pub waits-below : Windows net → (v t : ℕ) (x : Packet) → t < n → Hands net r v t x → Wait-below x t
   waits-below win v t x k e =

@@ -37,8 +37,8 @@ module _ (net : Network) (sound : Sound net) (win : Windows net) (r : Run) (per 
       let e = reach-at net sound r per (a .at) m (a .there) .0 in
       let x = o .frame .packet in
       let i₁ : arrival r (x .message) ≡ arrival r m = ap (arrival r) (o .message) in
-      let i₂ : queueStation net v (streamAt net (x .message .stream) .subLink) ≡ queueStation net (vlOf net m) (streamAt net (m .stream) .subLink)
-      = ap (λ (z : Message). queueStation net v (streamAt net (z .stream) .subLink)) (o .message) ∙ ap (λ (z : ℕ). queueStation net z (streamAt net (m .stream) .subLink)) same-vl in
+      let i₂ : queueStation net v (streamAt net (x .message .stream) .sublink) ≡ queueStation net (vlOf net m) (streamAt net (m .stream) .sublink)
+      = ap (λ (z : Message). queueStation net v (streamAt net (z .stream) .sublink)) (o .message) ∙ ap (λ (z : ℕ). queueStation net z (streamAt net (m .stream) .sublink)) same-vl in
       let i₃ : vlAt net v .gap ≡ vlAt net (vlOf net m) .gap = ap (λ (z : ℕ). vlAt net z .gap) same-vl in
       record {
         frame = o .frame;
@@ -59,7 +59,7 @@ module _ (net : Network) (sound : Sound net) (win : Windows net) (r : Run) (per 
       let size-pos : 0 < m .size = omega (arith, sound .least-size (m .stream) (g .stream), g .least) in
       let len = packets-length net sound r per v 0 hv m (g .stream) size-pos in
       let pp = packets-pos lm (m .size) l64 size-pos in
-      let pm = packets-mono lm (streamAt net (m .stream) .leastSize) (m .size) l64 (g .least) in
+      let pm = packets-mono lm (streamAt net (m .stream) .least) (m .size) l64 (g .least) in
       let k : ℕ = length (packetsIn net m) - 1 in
       let q = c k (omega arith) in
       let b = done-delay net sound r per win h hop end .backward (q .at) (q .frame) (q .there) in
@@ -67,7 +67,7 @@ module _ (net : Network) (sound : Sound net) (win : Windows net) (r : Run) (per 
       let x = q .frame .packet in
       let i₁ : arrival r (x .message) ≡ arrival r m = ap (arrival r) (q .message) in
       let i₂ : x .index * vlAt net v .gap ≡ k * vlAt net (vlOf net m) .gap = ap (λ (z : ℕ). z * vlAt net v .gap) (q .index) ∙ ap (λ (z : ℕ). k * vlAt net z .gap) same-vl in
-      let i₃ : (packets (streamAt net (m .stream) .leastSize) lm - 1) * vlAt net (vlOf net m) .gap ≤ k * vlAt net (vlOf net m) .gap = mul-le-mul-right (vlAt net (vlOf net m) .gap) (omega arith) in
+      let i₃ : (packets (streamAt net (m .stream) .least) lm - 1) * vlAt net (vlOf net m) .gap ≤ k * vlAt net (vlOf net m) .gap = mul-le-mul-right (vlAt net (vlOf net m) .gap) (omega arith) in
       omega (arith, q .by-then, b .least, w .0, w .1 .not-before, g .released, g .delay-least, ap (λ (u : ℕ). r .choice u .send m) (g .released), i₁, i₂, i₃)
 
 -- a packet that is handed over
@@ -78,7 +78,7 @@ module _ (net : Network) (sound : Sound net) (win : Windows net) (r : Run) (per 
     pub only : (u : ℕ) → List·Memᴰ (x .message) (ch net r u .reach) → u ≡ came
     pub stream : x .message .stream < length (net .streams)
     pub not-before : came ≤ t
-    pub at-most : t + vlAt net (vlOf net (x .message)) .gap ≤ came + queueStation net (vlOf net (x .message)) (streamAt net (x .message .stream) .subLink)
+    pub at-most : t + vlAt net (vlOf net (x .message)) .gap ≤ came + queueStation net (vlOf net (x .message)) (streamAt net (x .message .stream) .sublink)
 
   pub waits : (v t : ℕ) (x : Packet) → Hands net r v t x → Wait x t
   waits v t x e =
@@ -86,7 +86,7 @@ module _ (net : Network) (sound : Sound net) (win : Windows net) (r : Run) (per 
       let k : List·Memᴰ f (hand net r v t) = subst (λ (o : Option Packet). List·Memᴰ f (framed v t o)) (sym e) (List·Memᴰ·head refl) in
       let w = hand-fact net sound r per v win (hand-vl net sound r per v t f k) t f k .1 in
       let o = w .origin in
-      let i : ℕ = streamAt net (x .message .stream) .subLink in
+      let i : ℕ = streamAt net (x .message .stream) .sublink in
       record {
         came = arrival r (x .message);
         reach = o .reached;

@@ -15,6 +15,7 @@ use Rattle.base.specs.Tests.{isSome, numberOr0, firstFailing}
 use Rattle.base.proofs.Every.{at}
 use Rattle.frame.specs.Frame.{lineOverhead, protocolOverhead, leastFrame, leastLine, largestLine}
 use Rattle.frame.specs.Packets.{fullPacket, packets}
+use Rattle.network.specs.declared.Parent.the-variants.{Root}
 use Rattle.network.specs.Network.{Network, systemAt, vlAt, streamAt, portAt, hopAt}
 use Rattle.network.specs.References.{namesSystem, hasHop, streamNamesVl, namesSubLink, hopNamesVl, namesPort, ofParent, parentEarlier, parentSameVl, parentLowerPort, twinOf, noEarlierTwin, routeLonger, notTooDeep, vlTests, streamTests, hopTests, refFault, badReference}
 use Rattle.network.specs.Views.{hopsOn, routeOf, vlsOf, streamsOn, isParent, leaf, leavesOf, route}
@@ -42,13 +43,13 @@ whole = record {
   sendGreatest = 1000;
   receiveLeast = 500;
   receiveGreatest = 500;
-  systems = record { perByte = 1 } ∷ [];
-  vls = record { system = 0; gap = 12500; subLinks = 1; lmax = 1518 } ∷ record { system = 0; gap = 25000; subLinks = 1; lmax = 516 } ∷ [];
+  systems = record { perbyte = 1 } ∷ [];
+  vls = record { system = 0; gap = 12500; sublinks = 1; lmax = 1518 } ∷ record { system = 0; gap = 25000; sublinks = 1; lmax = 516 } ∷ [];
   streams =
-      record { vl = 0; subLink = 0; sampling = false; size = 2000; leastSize = 1000; period = 250000; jitter = 0 }
-      ∷ record { vl = 1; subLink = 0; sampling = true; size = 469; leastSize = 10; period = 500000; jitter = 1000 } ∷ [];
-  ports = record { perByte = 1; delayLeast = 875; delayGreatest = 1250 } ∷ [];
-  hops = record { vl = 0; port = 0; parent = none } ∷ record { vl = 1; port = 0; parent = none } ∷ [];
+      record { vl = 0; sublink = 0; sampling = false; size = 2000; least = 1000; period = 250000; jitter = 0 }
+      ∷ record { vl = 1; sublink = 0; sampling = true; size = 469; least = 10; period = 500000; jitter = 1000 } ∷ [];
+  ports = record { perbyte = 1; least = 875; greatest = 1250 } ∷ [];
+  hops = record { vl = 0; port = 0; parent = Root } ∷ record { vl = 1; port = 0; parent = Root } ∷ [];
 }
 
 references : References whole
@@ -61,15 +62,15 @@ sound = record {
   references = references;
   send = leb→le 500 1000 tt;
   receive = leb→le 500 500 tt;
-  system-speed = λ e h. leb→le 1 (systemAt whole e .perByte) (at (λ e. leb 1 (systemAt whole e .perByte)) 1 tt e h);
+  system-speed = λ e h. leb→le 1 (systemAt whole e .perbyte) (at (λ e. leb 1 (systemAt whole e .perbyte)) 1 tt e h);
   gap = λ v h. leb→le 1 (vlAt whole v .gap) (at (λ v. leb 1 (vlAt whole v .gap)) 2 tt v h);
   lmax-least = λ v h. leb→le 64 (vlAt whole v .lmax) (at (λ v. leb 64 (vlAt whole v .lmax)) 2 tt v h);
   lmax-greatest = λ v h. leb→le (vlAt whole v .lmax) 1518 (at (λ v. leb (vlAt whole v .lmax) 1518) 2 tt v h);
-  least-size = λ s h. leb→le 1 (streamAt whole s .leastSize) (at (λ s. leb 1 (streamAt whole s .leastSize)) 2 tt s h);
-  size = λ s h. leb→le (streamAt whole s .leastSize) (streamAt whole s .size) (at (λ s. leb (streamAt whole s .leastSize) (streamAt whole s .size)) 2 tt s h);
+  least-size = λ s h. leb→le 1 (streamAt whole s .least) (at (λ s. leb 1 (streamAt whole s .least)) 2 tt s h);
+  size = λ s h. leb→le (streamAt whole s .least) (streamAt whole s .size) (at (λ s. leb (streamAt whole s .least) (streamAt whole s .size)) 2 tt s h);
   period = λ s h. leb→le 1 (streamAt whole s .period) (at (λ s. leb 1 (streamAt whole s .period)) 2 tt s h);
-  port-speed = λ p h. leb→le 1 (portAt whole p .perByte) (at (λ p. leb 1 (portAt whole p .perByte)) 1 tt p h);
-  port-delay = λ p h. leb→le (portAt whole p .delayLeast) (portAt whole p .delayGreatest) (at (λ p. leb (portAt whole p .delayLeast) (portAt whole p .delayGreatest)) 1 tt p h);
+  port-speed = λ p h. leb→le 1 (portAt whole p .perbyte) (at (λ p. leb 1 (portAt whole p .perbyte)) 1 tt p h);
+  port-delay = λ p h. leb→le (portAt whole p .least) (portAt whole p .greatest) (at (λ p. leb (portAt whole p .least) (portAt whole p .greatest)) 1 tt p h);
   sends-in-a-gap = λ v h. leb→le (sendSum whole (vlAt whole v .system)) (vlAt whole v .gap) (at (λ v. leb (sendSum whole (vlAt whole v .system)) (vlAt whole v .gap)) 2 tt v h);
 }
 
@@ -114,7 +115,7 @@ port-length = ap busyLength port-flows ∙ lengths .2
 pub busy : Busy whole
 busy = record { queue = queue; port = port }
   where
-    queue : (s : ℕ) → s < 2 → Has (queueLength whole (streamAt whole s .vl) (streamAt whole s .subLink))
+    queue : (s : ℕ) → s < 2 → Has (queueLength whole (streamAt whole s .vl) (streamAt whole s .sublink))
     queue zero h = record { length = 25000; is = queue-lengths .0 }
     queue (suc zero) h = record { length = 25000; is = queue-lengths .1 }
     queue (suc (suc s)) h = absurd (omega arith)

@@ -45,7 +45,7 @@ use Rattle.machine.proofs.Fill.{tests, ns, n, ρ, rel, fill, send, flig
 pub record Aim (net : Network) : Type 0 where
   pub vl : ℕ
   pub row : vl < length (net .vls)
-  pub one-sub-link : vlAt net vl .subLinks ≡ 1
+  pub one-sub-link : vlAt net vl .sublinks ≡ 1
   pub stream : ℕ
   pub stream-row : stream < length (net .streams)
   pub on-vl : streamAt net stream .vl ≡ vl
@@ -59,7 +59,7 @@ module _ (net : Network) (sound : Sound net) (win : Windows net) (aim : Aim net)
   abbrev hv : v < length (net .vls)
   hv = aim .row
 
-  abbrev one : vlAt net v .subLinks ≡ 1
+  abbrev one : vlAt net v .sublinks ≡ 1
   one = aim .one-sub-link
 
   abbrev s₁ : ℕ
@@ -109,7 +109,7 @@ module _ (net : Network) (sound : Sound net) (win : Windows net) (aim : Aim net)
   send-is t m = ap (λ (f : Message → ℕ). f m) (auto-send net rels sends flights receives (λ w. 0) (λ e. 0) (behind late) t)
 
   abbrev nb : ℕ
-  nb = vlAt net v .subLinks * vlAt net v .gap
+  nb = vlAt net v .sublinks * vlAt net v .gap
 
   nb-is : nb ≡ vlAt net v .gap
   nb-is = ap (λ (z : ℕ). z * vlAt net v .gap) one ∙ (omega arith)
@@ -132,7 +132,7 @@ module _ (net : Network) (sound : Sound net) (win : Windows net) (aim : Aim net)
       record {
         from = omega (arith, send-is t m, arrives net sound v s₁ d t m);
         by-last = omega (arith, send-is t m, arrives net sound v s₁ d t m, u, w .now);
-        here = subst (λ (z : ℕ). T (eqb (streamAt net z .vl) v && eqb (streamAt net z .subLink) 0)) e (w .passes);
+        here = subst (λ (z : ℕ). T (eqb (streamAt net z .vl) v && eqb (streamAt net z .sublink) 0)) e (w .passes);
       }
 
   pub reach-time : (t : ℕ) (m : Message) → List·Memᴰ m (ch net r t .reach) → (net .sendGreatest ≤ t) × (t ≤ last) × T (test net v 0 m)
@@ -182,10 +182,10 @@ module _ (net : Network) (sound : Sound net) (win : Windows net) (aim : Aim net)
   same-cost : (s k : ℕ) → List·Memᴰ s streams → weight (rel net sound v s₁ d s k) ≡ queueFlow net s .cost
   same-cost s k m =
       let w = was-passing (tests net sound v s₁ d) (length (net .streams)) s m in
-      let e : streamAt net s .vl ≡ v = eqb→eq (streamAt net s .vl) v (left (eqb (streamAt net s .vl) v) (eqb (streamAt net s .subLink) 0) (w .1)) in
+      let e : streamAt net s .vl ≡ v = eqb→eq (streamAt net s .vl) v (left (eqb (streamAt net s .vl) v) (eqb (streamAt net s .sublink) 0) (w .1)) in
       let hw = sound .references .stream-vl s (w .0) in
       ap (λ (z : ℕ). z * nb) (length-lines (vlAt net (streamAt net s .vl) .lmax) (streamAt net s .size) (sound .lmax-least (streamAt net s .vl) hw) (omega (arith, sound .least-size s (w .0), sound .size s (w .0))))
-      ∙ ap (λ (z : ℕ). packets (streamAt net s .size) (vlAt net (streamAt net s .vl) .lmax) * (vlAt net z .subLinks * vlAt net z .gap)) (sym e)
+      ∙ ap (λ (z : ℕ). packets (streamAt net s .size) (vlAt net (streamAt net s .vl) .lmax) * (vlAt net z .sublinks * vlAt net z .gap)) (sym e)
       ∙ sym (flow-cost net s)
 
   -- P packets come
@@ -218,17 +218,17 @@ module _ (net : Network) (sound : Sound net) (win : Windows net) (aim : Aim net)
   -- there is a stream, so P is not 0
   pub listed : List·Memᴰ s₁ streams
   listed = is-passing (tests net sound v s₁ d) (length (net .streams)) s₁ on
-      (both (eqb (streamAt net s₁ .vl) v) (eqb (streamAt net s₁ .subLink) 0) (eq→eqb (streamAt net s₁ .vl) v of)
-      (eq→eqb (streamAt net s₁ .subLink) 0 (omega (arith, sound .references .stream-sub-link s₁ on, ap (λ (z : ℕ). vlAt net z .subLinks) of, one))))
+      (both (eqb (streamAt net s₁ .vl) v) (eqb (streamAt net s₁ .sublink) 0) (eq→eqb (streamAt net s₁ .vl) v of)
+      (eq→eqb (streamAt net s₁ .sublink) 0 (omega (arith, sound .references .stream-sub-link s₁ on, ap (λ (z : ℕ). vlAt net z .sublinks) of, one))))
 
   pub P-pos : 0 < P
   P-pos = go P worth-gap
     where
       c : 0 < queueFlow net s₁ .cost
       c = let w = streamAt net s₁ .vl in
-          let e : 1 ≡ vlAt net w .subLinks = sym one ∙ ap (λ (z : ℕ). vlAt net z .subLinks) (sym of) in
+          let e : 1 ≡ vlAt net w .sublinks = sym one ∙ ap (λ (z : ℕ). vlAt net z .sublinks) (sym of) in
           let hw = sound .references .stream-vl s₁ on in
-          let q : 0 < packets (streamAt net s₁ .size) (vlAt net w .lmax) * (vlAt net w .subLinks * vlAt net w .gap) = mul-pos
+          let q : 0 < packets (streamAt net s₁ .size) (vlAt net w .lmax) * (vlAt net w .sublinks * vlAt net w .gap) = mul-pos
           (packets-pos (vlAt net w .lmax) (streamAt net s₁ .size) (sound .lmax-least w hw) (omega (arith, sound .least-size s₁ on, sound .size s₁ on)))
           (mul-pos (omega arith) (omega (arith, sound .gap w hw))) in
           subst (λ (z : ℕ). 0 < z) (sym (flow-cost net s₁)) q
@@ -295,8 +295,8 @@ module _ (net : Network) (sound : Sound net) (win : Windows net) (aim : Aim net)
   facts : (t i : ℕ) (x : Packet) → List·Memᴰ x (news net r v t i) → Origin net sound r per v x
   facts t i x k = brought-facts net sound r per v t i x k .0
 
-  in-lane : (x : Packet) → Origin net sound r per v x → streamAt net (x .message .stream) .subLink ≡ 0
-  in-lane x o = omega (arith, sound .references .stream-sub-link (x .message .stream) (o .message .stream), ap (λ (z : ℕ). vlAt net z .subLinks) (o .vl), one)
+  in-lane : (x : Packet) → Origin net sound r per v x → streamAt net (x .message .stream) .sublink ≡ 0
+  in-lane x o = omega (arith, sound .references .stream-sub-link (x .message .stream) (o .message .stream), ap (λ (z : ℕ). vlAt net z .sublinks) (o .vl), one)
 
   gone : (x : Packet) → Within x (queue (vlAt net v .gap) s₀ (news net r v) (suc far) .lanes) → ⊥
   gone x w =

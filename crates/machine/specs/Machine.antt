@@ -5,7 +5,7 @@ use mathlib.Core.Bool.{true, cond}
 use mathlib.Core.List.{List, [], _++_}
 use mathlib.Core.Option.{Option, none, some}
 use Rattle.base.specs.Tabulate.{passing}
-use Rattle.network.specs.Network.{Network, vlAt, hopAt}
+use Rattle.network.specs.Network.{Network, vlAt, hopAt, parentAt}
 use Rattle.network.specs.Views.{hopsOn, vlsOf, leaf}
 use Rattle.machine.specs.Lists.{chosen, gather}
 use Rattle.machine.specs.Turn.{Lane, lanesOf, fromTurn}
@@ -72,7 +72,7 @@ module _ (net : Network) where
     setsFrom v (some g) = delivered g
 
     abbrev pub setsOut : ℕ → List Frame
-    setsOut h = setsFrom (hopAt net h .vl) (hopAt net h .parent)
+    setsOut h = setsFrom (hopAt net h .vl) (parentAt net h)
 
     -- ---- arrivals
     -- all that is on the way to hop h in this tick, and from it
@@ -137,7 +137,7 @@ module _ (net : Network) where
   abbrev pub start : Run → State
   start r = record {
     sending = [];
-    queue = λ v. record { lanes = lanesOf (fromTurn (r .firstSub v) (passing (λ k. true) (vlAt net v .subLinks))); next = 0 };
+    queue = λ v. record { lanes = lanesOf (fromTurn (r .firstSub v) (passing (λ k. true) (vlAt net v .sublinks))); next = 0 };
     end = λ e. record { lanes = lanesOf (fromTurn (r .firstVl e) (vlsOf net e)); link = none };
     flying = λ h. [];
     port = λ p. Fifo.empty;

@@ -72,11 +72,11 @@ module _ (net : Network) where
   -- the packets that messages bring to sub-link k of VL v, each message whole
   abbrev pub toLane : ℕ → ℕ → List Message → List Packet
   toLane v k [] = []
-  toLane v k (m ∷ ms) = cond (eqb (vlOf m) v && eqb (streamAt net (m .stream) .subLink) k) (packetsIn m) [] ++ toLane v k ms
+  toLane v k (m ∷ ms) = cond (eqb (vlOf m) v && eqb (streamAt net (m .stream) .sublink) k) (packetsIn m) [] ++ toLane v k ms
 
   -- "b × ticks per byte" on the link of an end system and of a port
   abbrev pub endCost : ℕ → Frame → ℕ
-  endCost e f = f .packet .bytes * systemAt net e .perByte
+  endCost e f = f .packet .bytes * systemAt net e .perbyte
 
   abbrev pub portCost : ℕ → Copy → ℕ
-  portCost p c = c .frame .packet .bytes * portAt net p .perByte
+  portCost p c = c .frame .packet .bytes * portAt net p .perbyte

@@ -49,11 +49,11 @@ module _ (net : Network) where
   -- "On a virtual link with one sub-link the queue figure is also reached: for each stream some permitted run makes a last packet wait
   -- exactly that many ticks."
   abbrev pub Reached : Type 0
-  Reached = (s : ℕ) → s < length (net .streams) → vlAt net (streamAt net s .vl) .subLinks ≡ 1 → Reaches net s (queueOf net s)
+  Reached = (s : ℕ) → s < length (net .streams) → vlAt net (streamAt net s .vl) .sublinks ≡ 1 → Reaches net s (queueOf net s)
 
   -- 01's queue figure is "the station figure less one BAG": the station figure is no less, so nothing is cut off
   abbrev pub Nothing-cut-off : Type 0
-  Nothing-cut-off = (s : ℕ) → s < length (net .streams) → let v = streamAt net s .vl in let k = streamAt net s .subLink in
+  Nothing-cut-off = (s : ℕ) → s < length (net .streams) → let v = streamAt net s .vl in let k = streamAt net s .sublink in
       vlAt net v .gap ≤ figure (queueFlows net v k) (numberOr0 (queueLength net v k))
 
   pub record Holds : Type 0 where

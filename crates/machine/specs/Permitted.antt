@@ -21,7 +21,7 @@ streamFlow net s = record { period = streamAt net s .period; jitter = streamAt n
 -- "A stream releases messages of least M to M bytes"
 pub record Sized (net : Network) (x : Release) : Type 0 where
   pub stream : x .stream < length (net .streams)
-  pub least : streamAt net (x .stream) .leastSize ≤ x .size
+  pub least : streamAt net (x .stream) .least ≤ x .size
   pub greatest : x .size ≤ streamAt net (x .stream) .size
 
 -- how many messages stream s releases in tick t
@@ -46,10 +46,10 @@ module _ (net : Network) where
     -- "after a permitted switch delay of its own"
     pub flight-least :
         (t h : ℕ) (f : Frame) → t < n → h < length (net .hops) → List·Memᴰ f (setsOut net t (r .choice t) (state net r t) h)
-        → portAt net (hopAt net h .port) .delayLeast ≤ r .choice t .flight h f
+        → portAt net (hopAt net h .port) .least ≤ r .choice t .flight h f
     pub flight-greatest :
         (t h : ℕ) (f : Frame) → t < n → h < length (net .hops) → List·Memᴰ f (setsOut net t (r .choice t) (state net r t) h)
-        → r .choice t .flight h f ≤ portAt net (hopAt net h .port) .delayGreatest
+        → r .choice t .flight h f ≤ portAt net (hopAt net h .port) .greatest
     -- "A hop that is nobody's parent leads to the receive delay."
     pub receive-least :
         (t h : ℕ) (f : Frame) → t < n → leaf net h ≡ true → List·Memᴰ f (delivered net t (r .choice t) (state net r t) h)

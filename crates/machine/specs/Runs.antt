@@ -62,8 +62,8 @@ module _ (net : Network) where
     pub rule : (s : ℕ) → s < length (net .streams) → (x d : ℕ) → span (releasedBy releases s) x d ≤ most (streamFlow net s) d
     pub send-least : (t : ℕ) (m : Message) → net .sendLeast ≤ send t m
     pub send-greatest : (t : ℕ) (m : Message) → send t m ≤ net .sendGreatest
-    pub flight-least : (t h : ℕ) (f : Frame) → h < length (net .hops) → portAt net (hopAt net h .port) .delayLeast ≤ flight t h f
-    pub flight-greatest : (t h : ℕ) (f : Frame) → h < length (net .hops) → flight t h f ≤ portAt net (hopAt net h .port) .delayGreatest
+    pub flight-least : (t h : ℕ) (f : Frame) → h < length (net .hops) → portAt net (hopAt net h .port) .least ≤ flight t h f
+    pub flight-greatest : (t h : ℕ) (f : Frame) → h < length (net .hops) → flight t h f ≤ portAt net (hopAt net h .port) .greatest
     pub receive-least : (t h : ℕ) (f : Frame) → net .receiveLeast ≤ receive t h f
     pub receive-greatest : (t h : ℕ) (f : Frame) → receive t h f ≤ net .receiveGreatest
 

@@ -13,7 +13,7 @@ use Rattle.base.specs.Tests.{isSome, numberOr0}
 use Rattle.base.proofs.LeastLaws.{least-none, none-was, least-was, least-exists}
 use Rattle.base.proofs.TestLaws.{some-is, is-some-was, none-is, is-none-was}
 use Rattle.frame.specs.Packets.{packets}
-use Rattle.network.specs.Network.{Network, vlAt, streamAt, hopAt}
+use Rattle.network.specs.Network.{Network, vlAt, streamAt, hopAt, parentAt}
 use Rattle.network.specs.References.{namesSystem, hasHop, streamNamesVl, namesSubLink, hopNamesVl, namesPort, ofParent, parentEarlier, parentSameVl, parentLowerPort, twinOf, noEarlierTwin, routeLonger, notTooDeep, oneSample}
 use Rattle.network.specs.ReferenceFacts.{HopOf}
 
@@ -48,13 +48,13 @@ pub stream-names-vl-was : (net : Network) (s : ℕ) → streamNamesVl net s ≡ 
 unfolding streamNamesVl
 stream-names-vl-was net s e = ltb-true (streamAt net s .vl) (length (net .vls)) e
 
-pub names-sub-link : (net : Network) (s : ℕ) → streamAt net s .subLink < vlAt net (streamAt net s .vl) .subLinks → namesSubLink net s ≡ true
+pub names-sub-link : (net : Network) (s : ℕ) → streamAt net s .sublink < vlAt net (streamAt net s .vl) .sublinks → namesSubLink net s ≡ true
 unfolding namesSubLink
-names-sub-link net s h = lt-ltb (streamAt net s .subLink) (vlAt net (streamAt net s .vl) .subLinks) h
+names-sub-link net s h = lt-ltb (streamAt net s .sublink) (vlAt net (streamAt net s .vl) .sublinks) h
 
-pub names-sub-link-was : (net : Network) (s : ℕ) → namesSubLink net s ≡ true → streamAt net s .subLink < vlAt net (streamAt net s .vl) .subLinks
+pub names-sub-link-was : (net : Network) (s : ℕ) → namesSubLink net s ≡ true → streamAt net s .sublink < vlAt net (streamAt net s .vl) .sublinks
 unfolding namesSubLink
-names-sub-link-was net s e = ltb-true (streamAt net s .subLink) (vlAt net (streamAt net s .vl) .subLinks) e
+names-sub-link-was net s e = ltb-true (streamAt net s .sublink) (vlAt net (streamAt net s .vl) .sublinks) e
 
 -- ---- hops
 pub hop-names-vl : (net : Network) (h : ℕ) → hopAt net h .vl < length (net .vls) → hopNamesVl net h ≡ true
@@ -74,43 +74,43 @@ unfolding namesPort
 names-port-was net h e = ltb-true (hopAt net h .port) (length (net .ports)) e
 
 -- a test of the parent passes exactly if it passes of each parent that there is
-pub of-parent : (net : Network) (test : ℕ → Bool) (h : ℕ) → ((g : ℕ) → hopAt net h .parent ≡ some g → test g ≡ true) → ofParent net test h ≡ true
+pub of-parent : (net : Network) (test : ℕ → Bool) (h : ℕ) → ((g : ℕ) → parentAt net h ≡ some g → test g ≡ true) → ofParent net test h ≡ true
 unfolding ofParent
-of-parent net test h all = go (hopAt net h .parent) refl
+of-parent net test h all = go (parentAt net h) refl
   where
-    go : (o : Option ℕ) → hopAt net h .parent ≡ o → elim o [ none ↦ true | some g ↦ test g ] ≡ true
+    go : (o : Option ℕ) → parentAt net h ≡ o → elim o [ none ↦ true | some g ↦ test g ] ≡ true
     go none e = refl
     go (some g) e = all g e
 
-pub of-parent-was : (net : Network) (test : ℕ → Bool) (h g : ℕ) → ofParent net test h ≡ true → hopAt net h .parent ≡ some g → test g ≡ true
+pub of-parent-was : (net : Network) (test : ℕ → Bool) (h g : ℕ) → ofParent net test h ≡ true → parentAt net h ≡ some g → test g ≡ true
 unfolding ofParent
 of-parent-was net test h g t e = sym (ap (λ (o : Option ℕ). elim o [ none ↦ true | some i ↦ test i ]) e) ∙ t
 
 module _ (net : Network) (h : ℕ) where
-  pub parent-is-earlier : ((g : ℕ) → hopAt net h .parent ≡ some g → g < h) → parentEarlier net h ≡ true
+  pub parent-is-earlier : ((g : ℕ) → parentAt net h ≡ some g → g < h) → parentEarlier net h ≡ true
   unfolding parentEarlier
   parent-is-earlier all = of-parent net (λ g. ltb g h) h (λ g e. lt-ltb g h (all g e))
 
-  pub parent-was-earlier : (g : ℕ) → parentEarlier net h ≡ true → hopAt net h .parent ≡ some g → g < h
+  pub parent-was-earlier : (g : ℕ) → parentEarlier net h ≡ true → parentAt net h ≡ some g → g < h
   unfolding parentEarlier
   parent-was-earlier g t e = ltb-true g h (of-parent-was net (λ g. ltb g h) h g t e)
 
-  pub parent-has-vl : ((g : ℕ) → hopAt net h .parent ≡ some g → hopAt net g .vl ≡ hopAt net h .vl) → parentSameVl net h ≡ true
+  pub parent-has-vl : ((g : ℕ) → parentAt net h ≡ some g → hopAt net g .vl ≡ hopAt net h .vl) → parentSameVl net h ≡ true
   unfolding parentSameVl
   parent-has-vl all =
       of-parent net (λ g. eqb (hopAt net g .vl) (hopAt net h .vl)) h (λ g e. eq-eqb (hopAt net g .vl) (hopAt net h .vl) (all g e))
 
-  pub parent-had-vl : (g : ℕ) → parentSameVl net h ≡ true → hopAt net h .parent ≡ some g → hopAt net g .vl ≡ hopAt net h .vl
+  pub parent-had-vl : (g : ℕ) → parentSameVl net h ≡ true → parentAt net h ≡ some g → hopAt net g .vl ≡ hopAt net h .vl
   unfolding parentSameVl
   parent-had-vl g t e =
       eqb-true (hopAt net g .vl) (hopAt net h .vl) (of-parent-was net (λ g. eqb (hopAt net g .vl) (hopAt net h .vl)) h g t e)
 
-  pub parent-is-lower : ((g : ℕ) → hopAt net h .parent ≡ some g → hopAt net g .port < hopAt net h .port) → parentLowerPort net h ≡ true
+  pub parent-is-lower : ((g : ℕ) → parentAt net h ≡ some g → hopAt net g .port < hopAt net h .port) → parentLowerPort net h ≡ true
   unfolding parentLowerPort
   parent-is-lower all =
       of-parent net (λ g. ltb (hopAt net g .port) (hopAt net h .port)) h (λ g e. lt-ltb (hopAt net g .port) (hopAt net h .port) (all g e))
 
-  pub parent-was-lower : (g : ℕ) → parentLowerPort net h ≡ true → hopAt net h .parent ≡ some g → hopAt net g .port < hopAt net h .port
+  pub parent-was-lower : (g : ℕ) → parentLowerPort net h ≡ true → parentAt net h ≡ some g → hopAt net g .port < hopAt net h .port
   unfolding parentLowerPort
   parent-was-lower g t e =
       ltb-true (hopAt net g .port) (hopAt net h .port) (of-parent-was net (λ g. ltb (hopAt net g .port) (hopAt net h .port)) h g t e)

@@ -11,7 +11,7 @@ use native.Mathlib.Nat.{eq-or-lt-of-le, le-of-suc-le-suc}
 use native.Mathlib.Omega.{arith}
 use lib.ListN.{length, getD}
 use Rattle.base.proofs.Members.{member-at}
-use Rattle.network.specs.Network.{Network, hopAt}
+use Rattle.network.specs.Network.{Network, hopAt, parentAt}
 use Rattle.network.specs.References.{routeLonger}
 use Rattle.network.specs.Views.{routeOf}
 use Rattle.network.specs.ReferenceFacts.{References}
@@ -19,29 +19,29 @@ use Rattle.network.specs.ReferenceFacts.{References}
 -- ---- any network
 module _ (net : Network) where
   -- a hop without parent is its whole route; any other stands before its parent's
-  pub route-of-root : (n h : ℕ) → hopAt net h .parent ≡ none → routeOf net (suc n) h ≡ h ∷ []
+  pub route-of-root : (n h : ℕ) → parentAt net h ≡ none → routeOf net (suc n) h ≡ h ∷ []
   unfolding routeOf
   route-of-root n h e = ap (λ (o : Option ℕ). h ∷ elim o [ none ↦ [] | some g ↦ routeOf net n g ]) e
 
-  pub route-of-child : (n h g : ℕ) → hopAt net h .parent ≡ some g → routeOf net (suc n) h ≡ h ∷ routeOf net n g
+  pub route-of-child : (n h g : ℕ) → parentAt net h ≡ some g → routeOf net (suc n) h ≡ h ∷ routeOf net n g
   unfolding routeOf
   route-of-child n h g e = ap (λ (o : Option ℕ). h ∷ elim o [ none ↦ [] | some i ↦ routeOf net n i ]) e
 
-  pub root-not-longer : (n h : ℕ) → hopAt net h .parent ≡ none → routeLonger net (suc n) h ≡ false
+  pub root-not-longer : (n h : ℕ) → parentAt net h ≡ none → routeLonger net (suc n) h ≡ false
   unfolding routeLonger
   root-not-longer n h e = ap (λ (o : Option ℕ). elim o [ none ↦ false | some g ↦ routeLonger net n g ]) e
 
-  pub child-longer : (n h g : ℕ) → hopAt net h .parent ≡ some g → routeLonger net (suc n) h ≡ routeLonger net n g
+  pub child-longer : (n h g : ℕ) → parentAt net h ≡ some g → routeLonger net (suc n) h ≡ routeLonger net n g
   unfolding routeLonger
   child-longer n h g e = ap (λ (o : Option ℕ). elim o [ none ↦ false | some i ↦ routeLonger net n i ]) e
 
   -- what holds of both holds of a route
   pub route-by :
-      (P : List ℕ → Type 0) (n h : ℕ) → (hopAt net h .parent ≡ none → P (h ∷ [])) → ((g : ℕ) → hopAt net h .parent ≡ some g → P (h ∷ routeOf net n g))
+      (P : List ℕ → Type 0) (n h : ℕ) → (parentAt net h ≡ none → P (h ∷ [])) → ((g : ℕ) → parentAt net h ≡ some g → P (h ∷ routeOf net n g))
       → P (routeOf net (suc n) h)
-  route-by P n h root child = go (hopAt net h .parent) refl
+  route-by P n h root child = go (parentAt net h) refl
     where
-      go : (o : Option ℕ) → hopAt net h .parent ≡ o → P (routeOf net (suc n) h)
+      go : (o : Option ℕ) → parentAt net h ≡ o → P (routeOf net (suc n) h)
       go none e = subst P (sym (route-of-root n h e)) (root e)
       go (some g) e = subst P (sym (route-of-child n h g e)) (child g e)
 
@@ -62,18 +62,18 @@ module _ (net : Network) where
 
   -- behind each stands its parent
   pub route-next :
-      (n h i : ℕ) → suc i < length (routeOf net n h) → hopAt net (getD (routeOf net n h) i 0) .parent ≡ some (getD (routeOf net n h) (suc i) 0)
+      (n h i : ℕ) → suc i < length (routeOf net n h) → parentAt net (getD (routeOf net n h) i 0) ≡ some (getD (routeOf net n h) (suc i) 0)
   unfolding routeOf
   route-next zero h i l = absurd (omega arith)
   route-next (suc n) h i l = route-by
-      (λ (r : List ℕ). suc i < length r → hopAt net (getD r i 0) .parent ≡ some (getD r (suc i) 0)) n h
+      (λ (r : List ℕ). suc i < length r → parentAt net (getD r i 0) ≡ some (getD r (suc i) 0)) n h
       (λ e k. absurd (omega arith))
       (λ g e k. go g e (λ j. route-next n g j) i k)
       l
     where
-      go : (g : ℕ) → hopAt net h .parent ≡ some g
-          → ((j : ℕ) → suc j < length (routeOf net n g) → hopAt net (getD (routeOf net n g) j 0) .parent ≡ some (getD (routeOf net n g) (suc j) 0))
-          → (i : ℕ) → suc i < suc (length (routeOf net n g)) → hopAt net (getD (h ∷ routeOf net n g) i 0) .parent ≡ some (getD (routeOf net n g) i 0)
+      go : (g : ℕ) → parentAt net h ≡ some g
+          → ((j : ℕ) → suc j < length (routeOf net n g) → parentAt net (getD (routeOf net n g) j 0) ≡ some (getD (routeOf net n g) (suc j) 0))
+          → (i : ℕ) → suc i < suc (length (routeOf net n g)) → parentAt net (getD (h ∷ routeOf net n g) i 0) ≡ some (getD (routeOf net n g) i 0)
       go g e ih zero k = e ∙ ap some (sym (route-first n g (omega (arith, route-short n g))))
       go g e ih (suc j) k = ih j (omega arith)
 
@@ -83,23 +83,23 @@ module _ (net : Network) where
   not-longer-some zero h e = absurd (true≢false e)
   not-longer-some (suc n) h e = omega arith
 
-  pub route-last : (n h i : ℕ) → routeLonger net n h ≡ false → suc i ≡ length (routeOf net n h) → hopAt net (getD (routeOf net n h) i 0) .parent ≡ none
+  pub route-last : (n h i : ℕ) → routeLonger net n h ≡ false → suc i ≡ length (routeOf net n h) → parentAt net (getD (routeOf net n h) i 0) ≡ none
   unfolding routeOf routeLonger
   route-last zero h i e l = absurd (omega arith)
-  route-last (suc n) h i e l = route-by (λ (r : List ℕ). suc i ≡ length r → hopAt net (getD r i 0) .parent ≡ none) n h
+  route-last (suc n) h i e l = route-by (λ (r : List ℕ). suc i ≡ length r → parentAt net (getD r i 0) ≡ none) n h
       (λ k m. root k i m)
       (λ g k m.
       let rest = sym (child-longer n h g k) ∙ e in
       child g (route-some n g (not-longer-some n g rest)) (λ j. route-last n g j rest) i m)
       l
     where
-      root : hopAt net h .parent ≡ none → (i : ℕ) → suc i ≡ 1 → hopAt net (getD (h ∷ []) i 0) .parent ≡ none
+      root : parentAt net h ≡ none → (i : ℕ) → suc i ≡ 1 → parentAt net (getD (h ∷ []) i 0) ≡ none
       root k zero m = k
       root k (suc j) m = absurd (omega arith)
 
       child : (g : ℕ) → 0 < length (routeOf net n g)
-          → ((j : ℕ) → suc j ≡ length (routeOf net n g) → hopAt net (getD (routeOf net n g) j 0) .parent ≡ none)
-          → (i : ℕ) → suc i ≡ suc (length (routeOf net n g)) → hopAt net (getD (h ∷ routeOf net n g) i 0) .parent ≡ none
+          → ((j : ℕ) → suc j ≡ length (routeOf net n g) → parentAt net (getD (routeOf net n g) j 0) ≡ none)
+          → (i : ℕ) → suc i ≡ suc (length (routeOf net n g)) → parentAt net (getD (h ∷ routeOf net n g) i 0) ≡ none
       child g k ih zero m = absurd (omega arith)
       child g k ih (suc j) m = ih j (omega arith)
 
@@ -138,7 +138,7 @@ pub record OnRoute (net : Network) (h g : ℕ) : Type 0 where
 pub record Root (net : Network) (h : ℕ) : Type 0 where
   pub at : ℕ
   pub place : getD (routeOf net 8 h) (length (routeOf net 8 h) - 1) 0 ≡ at
-  pub no-parent : hopAt net at .parent ≡ none
+  pub no-parent : parentAt net at ≡ none
   pub on : OnRoute net h at
 
 module _ (net : Network) (refs : References net) where
@@ -153,7 +153,7 @@ module _ (net : Network) (refs : References net) where
       itself : g ≡ h → OnRoute net h g
       itself e = record { row = omega arith; same-vl = rw e; no-later = omega arith; no-higher = rw e (omega arith) }
 
-      above : (f : ℕ) → hopAt net h .parent ≡ some f → OnRoute net f g → OnRoute net h g
+      above : (f : ℕ) → parentAt net h ≡ some f → OnRoute net f g → OnRoute net h g
       above f k r = record {
         row = r .row;
         same-vl = r .same-vl ∙ refs .parent-vl h f l k;
@@ -167,7 +167,7 @@ module _ (net : Network) (refs : References net) where
     on-route-at i k = on-route 8 h (getD (routeOf net 8 h) i 0) l (member-at (routeOf net 8 h) i 0 k)
 
     -- its last hop has no parent
-    pub route-ends : (i : ℕ) → suc i ≡ length (routeOf net 8 h) → hopAt net (getD (routeOf net 8 h) i 0) .parent ≡ none
+    pub route-ends : (i : ℕ) → suc i ≡ length (routeOf net 8 h) → parentAt net (getD (routeOf net 8 h) i 0) ≡ none
     route-ends i k = route-last net 8 h i (refs .not-deep h l) k
 
     -- for M-111
@@ -182,7 +182,7 @@ module _ (net : Network) (refs : References net) where
     route-whole n k = route-enough net 8 n h (refs .not-deep h l) k
 
     -- a hop and the whole route of its parent
-    pub route-of-parent : (g : ℕ) → hopAt net h .parent ≡ some g → routeOf net 8 h ≡ h ∷ routeOf net 8 g
+    pub route-of-parent : (g : ℕ) → parentAt net h ≡ some g → routeOf net 8 h ≡ h ∷ routeOf net 8 g
     route-of-parent g e =
         let rest = sym (child-longer net 7 h g e) ∙ refs .not-deep h l in
         route-of-child net 7 h g e ∙ ap (λ (r : List ℕ). h ∷ r) (sym (route-enough net 7 8 g rest (omega arith)))

@@ -14,7 +14,7 @@ use Rattle.base.specs.Tests.{firstFailing}
 use Rattle.base.proofs.LeastLaws.{least-none, least-exists}
 use Rattle.base.proofs.TestLaws.{some-is, none-is, first-fails, first-passes}
 use Rattle.frame.specs.Packets.{packets}
-use Rattle.network.specs.Network.{Network, vlAt, streamAt, hopAt}
+use Rattle.network.specs.Network.{Network, vlAt, streamAt, hopAt, parentAt}
 use Rattle.network.specs.References.{namesSystem, hasHop, streamNamesVl, namesSubLink, hopNamesVl, namesPort, ofParent, parentEarlier, parentSameVl, parentLowerPort, twinOf, noEarlierTwin, routeLonger, notTooDeep, vlTests, streamTests, hopTests, refFault, namingRows, oneSample}
 
 module _ (net : Network) (i : ℕ) where
@@ -27,7 +27,7 @@ module _ (net : Network) (i : ℕ) where
   unfolding streamNamesVl
   stream-names-vl-is = refl
 
-  pub names-sub-link-is : namesSubLink net i ≡ ltb (streamAt net i .subLink) (vlAt net (streamAt net i .vl) .subLinks)
+  pub names-sub-link-is : namesSubLink net i ≡ ltb (streamAt net i .sublink) (vlAt net (streamAt net i .vl) .sublinks)
   unfolding namesSubLink
   names-sub-link-is = refl
 
@@ -48,35 +48,35 @@ module _ (net : Network) (i : ℕ) where
   one-sample-is = refl
 
   -- ---- of the parent
-  without-parent : (test : ℕ → Bool) → hopAt net i .parent ≡ none → ofParent net test i ≡ true
+  without-parent : (test : ℕ → Bool) → parentAt net i ≡ none → ofParent net test i ≡ true
   unfolding ofParent
   without-parent test e = rw (e, ofParent)
 
-  with-parent : (test : ℕ → Bool) (g : ℕ) → hopAt net i .parent ≡ some g → ofParent net test i ≡ test g
+  with-parent : (test : ℕ → Bool) (g : ℕ) → parentAt net i ≡ some g → ofParent net test i ≡ test g
   unfolding ofParent
   with-parent test g e = rw (e, ofParent)
 
-  pub no-parent-earlier : hopAt net i .parent ≡ none → parentEarlier net i ≡ true
+  pub no-parent-earlier : parentAt net i ≡ none → parentEarlier net i ≡ true
   unfolding parentEarlier
   no-parent-earlier e = without-parent (λ g. ltb g i) e
 
-  pub parent-earlier-is : (g : ℕ) → hopAt net i .parent ≡ some g → parentEarlier net i ≡ ltb g i
+  pub parent-earlier-is : (g : ℕ) → parentAt net i ≡ some g → parentEarlier net i ≡ ltb g i
   unfolding parentEarlier
   parent-earlier-is g e = with-parent (λ g. ltb g i) g e
 
-  pub no-parent-same-vl : hopAt net i .parent ≡ none → parentSameVl net i ≡ true
+  pub no-parent-same-vl : parentAt net i ≡ none → parentSameVl net i ≡ true
   unfolding parentSameVl
   no-parent-same-vl e = without-parent (λ g. eqb (hopAt net g .vl) (hopAt net i .vl)) e
 
-  pub parent-same-vl-is : (g : ℕ) → hopAt net i .parent ≡ some g → parentSameVl net i ≡ eqb (hopAt net g .vl) (hopAt net i .vl)
+  pub parent-same-vl-is : (g : ℕ) → parentAt net i ≡ some g → parentSameVl net i ≡ eqb (hopAt net g .vl) (hopAt net i .vl)
   unfolding parentSameVl
   parent-same-vl-is g e = with-parent (λ g. eqb (hopAt net g .vl) (hopAt net i .vl)) g e
 
-  pub no-parent-lower : hopAt net i .parent ≡ none → parentLowerPort net i ≡ true
+  pub no-parent-lower : parentAt net i ≡ none → parentLowerPort net i ≡ true
   unfolding parentLowerPort
   no-parent-lower e = without-parent (λ g. ltb (hopAt net g .port) (hopAt net i .port)) e
 
-  pub parent-lower-is : (g : ℕ) → hopAt net i .parent ≡ some g → parentLowerPort net i ≡ ltb (hopAt net g .port) (hopAt net i .port)
+  pub parent-lower-is : (g : ℕ) → parentAt net i ≡ some g → parentLowerPort net i ≡ ltb (hopAt net g .port) (hopAt net i .port)
   unfolding parentLowerPort
   parent-lower-is g e = with-parent (λ g. ltb (hopAt net g .port) (hopAt net i .port)) g e
 

@@ -14,24 +14,24 @@ pub record EndSystem : Type 0 where
 pub record Vl : Type 0 where
   pub system : ℕ
   pub gap : ℕ
-  pub subLinks : ℕ
+  pub sublinks : ℕ
   pub lmax : ℕ
 
 -- a message stream: its VL and sub-link (from 0), whether it is sampling, its greatest and least size in bytes, its period and its jitter
 pub record Stream : Type 0 where
   pub vl : ℕ
-  pub subLink : ℕ
+  pub sublink : ℕ
   pub sampling : Bool
   pub size : ℕ
-  pub leastSize : ℕ
+  pub least : ℕ
   pub period : ℕ
   pub jitter : ℕ
 
 -- a switch port: the ticks that a byte takes on its link, and the bounds of the switch delay before it
 pub record Port : Type 0 where
   pub perByte : ℕ
-  pub delayLeast : ℕ
-  pub delayGreatest : ℕ
+  pub least : ℕ
+  pub greatest : ℕ
 
 -- a hop: one VL at one port, after the hop that is its parent, if it has one
 pub record Hop : Type 0 where
@@ -52,19 +52,19 @@ pub record Network : Type 0 where
 
 -- ---- the record at a row; past the last row a record of zeros
 abbrev pub noSystem : EndSystem
-noSystem = record { perByte = 0 }
+noSystem = record { perbyte = 0 }
 
 abbrev pub noVl : Vl
-noVl = record { system = 0; gap = 0; subLinks = 0; lmax = 0 }
+noVl = record { system = 0; gap = 0; sublinks = 0; lmax = 0 }
 
 abbrev pub noStream : Stream
-noStream = record { vl = 0; subLink = 0; sampling = false; size = 0; leastSize = 0; period = 0; jitter = 0 }
+noStream = record { vl = 0; sublink = 0; sampling = false; size = 0; least = 0; period = 0; jitter = 0 }
 
 abbrev pub noPort : Port
-noPort = record { perByte = 0; delayLeast = 0; delayGreatest = 0 }
+noPort = record { perbyte = 0; least = 0; greatest = 0 }
 
 abbrev pub noHop : Hop
-noHop = record { vl = 0; port = 0; parent = none }
+noHop = record { vl = 0; port = 0; parent = Root }
 
 abbrev pub systemAt : Network → ℕ → EndSystem
 systemAt net i = getD (net .systems) i noSystem

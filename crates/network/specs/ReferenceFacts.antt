@@ -7,7 +7,7 @@ use mathlib.Core.Option.{none, some}
 use mathlib.Core.Path.{_≡_}
 use lib.ListN.{length}
 use Rattle.frame.specs.Packets.{packets}
-use Rattle.network.specs.Network.{Network, vlAt, streamAt, hopAt}
+use Rattle.network.specs.Network.{Network, vlAt, streamAt, hopAt, parentAt}
 use Rattle.network.specs.Views.{hopsOn}
 use Rattle.network.specs.References.{routeLonger, badReference, badSample}
 
@@ -21,12 +21,12 @@ pub record References (net : Network) : Type 0 where
   pub vl-system : (v : ℕ) → v < length (net .vls) → vlAt net v .system < length (net .systems)
   pub vl-hop : (v : ℕ) → v < length (net .vls) → HopOf net v
   pub stream-vl : (s : ℕ) → s < length (net .streams) → streamAt net s .vl < length (net .vls)
-  pub stream-sub-link : (s : ℕ) → s < length (net .streams) → streamAt net s .subLink < vlAt net (streamAt net s .vl) .subLinks
+  pub stream-sub-link : (s : ℕ) → s < length (net .streams) → streamAt net s .sublink < vlAt net (streamAt net s .vl) .sublinks
   pub hop-vl : (h : ℕ) → h < length (net .hops) → hopAt net h .vl < length (net .vls)
   pub hop-port : (h : ℕ) → h < length (net .hops) → hopAt net h .port < length (net .ports)
-  pub parent-earlier : (h g : ℕ) → h < length (net .hops) → hopAt net h .parent ≡ some g → g < h
-  pub parent-vl : (h g : ℕ) → h < length (net .hops) → hopAt net h .parent ≡ some g → hopAt net g .vl ≡ hopAt net h .vl
-  pub parent-port : (h g : ℕ) → h < length (net .hops) → hopAt net h .parent ≡ some g → hopAt net g .port < hopAt net h .port
+  pub parent-earlier : (h g : ℕ) → h < length (net .hops) → parentAt net h ≡ some g → g < h
+  pub parent-vl : (h g : ℕ) → h < length (net .hops) → parentAt net h ≡ some g → hopAt net g .vl ≡ hopAt net h .vl
+  pub parent-port : (h g : ℕ) → h < length (net .hops) → parentAt net h ≡ some g → hopAt net g .port < hopAt net h .port
   pub no-twin : (h g : ℕ) → h < length (net .hops) → g < h → hopAt net g .vl ≡ hopAt net h .vl → hopAt net g .port ≡ hopAt net h .port → ⊥
   pub not-deep : (h : ℕ) → h < length (net .hops) → routeLonger net 8 h ≡ false
 

@@ -9,7 +9,7 @@ use lib.ListN.{length, getD}
 use Rattle.base.specs.Least.{leastFrom}
 use Rattle.base.specs.Tests.{isSome, firstFailing}
 use Rattle.frame.specs.Packets.{packets}
-use Rattle.network.specs.Network.{Network, vlAt, streamAt, hopAt}
+use Rattle.network.specs.Network.{Network, vlAt, streamAt, hopAt, parentAt}
 
 -- ---- VLs: "a VL names no end system, or has no hop"
 unfoldable pub namesSystem : Network → ℕ → Bool
@@ -23,7 +23,7 @@ unfoldable pub streamNamesVl : Network → ℕ → Bool
 streamNamesVl net s = ltb (streamAt net s .vl) (length (net .vls))
 
 unfoldable pub namesSubLink : Network → ℕ → Bool
-namesSubLink net s = ltb (streamAt net s .subLink) (vlAt net (streamAt net s .vl) .subLinks)
+namesSubLink net s = ltb (streamAt net s .sublink) (vlAt net (streamAt net s .vl) .sublinks)
 
 -- ---- hops: "a hop names no VL or port, its parent is not an earlier row of the same VL on a lower-numbered port,
 -- an earlier hop has the same VL and port, or it is deeper than 8"
@@ -35,7 +35,7 @@ namesPort net h = ltb (hopAt net h .port) (length (net .ports))
 
 -- a test of the parent passes where there is none
 unfoldable pub ofParent : Network → (ℕ → Bool) → ℕ → Bool
-ofParent net test h = elim (hopAt net h .parent) [ none ↦ true | some g ↦ test g ]
+ofParent net test h = elim (parentAt net h) [ none ↦ true | some g ↦ test g ]
 
 unfoldable pub parentEarlier : Network → ℕ → Bool
 parentEarlier net h = ofParent net (λ g. ltb g h) h
@@ -56,7 +56,7 @@ noEarlierTwin net h = not (isSome (leastFrom (twinOf net h) 0 h))
 -- the route of a hop, which is the hop, its parent, the parent's parent and so on, has more than n hops
 unfoldable pub routeLonger : Network → ℕ → ℕ → Bool
 routeLonger net zero h = true
-routeLonger net (suc n) h = elim (hopAt net h .parent) [ none ↦ false | some g ↦ routeLonger net n g ]
+routeLonger net (suc n) h = elim (parentAt net h) [ none ↦ false | some g ↦ routeLonger net n g ]
 
 -- "routes 8 hops deep"
 unfoldable pub notTooDeep : Network → ℕ → Bool

@@ -9,7 +9,7 @@ use lib.ListN.{length}
 use Rattle.base.specs.Least.{leastFrom}
 use Rattle.base.specs.Tabulate.{passing}
 use Rattle.base.specs.Tests.{isSome}
-use Rattle.network.specs.Network.{Network, vlAt, streamAt, hopAt}
+use Rattle.network.specs.Network.{Network, vlAt, streamAt, hopAt, parentAt}
 
 -- the VLs of an end system, in row order
 unfoldable pub vlsOf : Network → ℕ → List ℕ
@@ -17,7 +17,7 @@ vlsOf net e = passing (λ v. eqb (vlAt net v .system) e) (length (net .vls))
 
 -- the streams of sub-link k of VL v, in row order
 unfoldable pub streamsOn : Network → ℕ → ℕ → List ℕ
-streamsOn net v k = passing (λ s. eqb (streamAt net s .vl) v && eqb (streamAt net s .subLink) k) (length (net .streams))
+streamsOn net v k = passing (λ s. eqb (streamAt net s .vl) v && eqb (streamAt net s .sublink) k) (length (net .streams))
 
 -- the hops on a port, in row order
 unfoldable pub hopsOn : Network → ℕ → List ℕ
@@ -30,7 +30,7 @@ isParent h (some g) = eqb g h
 
 -- a hop that is nobody's parent
 unfoldable pub leaf : Network → ℕ → Bool
-leaf net h = not (isSome (leastFrom (λ g. isParent h (hopAt net g .parent)) 0 (length (net .hops))))
+leaf net h = not (isSome (leastFrom (λ g. isParent h (parentAt net g)) 0 (length (net .hops))))
 
 -- the destinations of a VL: its leaf hops, in row order
 unfoldable pub leavesOf : Network → ℕ → List ℕ
@@ -39,7 +39,7 @@ leavesOf net v = passing (λ h. eqb (hopAt net h .vl) v && leaf net h) (length (
 -- the hop, its parent, the parent's parent and so on, n hops at most
 unfoldable pub routeOf : Network → ℕ → ℕ → List ℕ
 routeOf net zero h = []
-routeOf net (suc n) h = h ∷ elim (hopAt net h .parent) [ none ↦ [] | some g ↦ routeOf net n g ]
+routeOf net (suc n) h = h ∷ elim (parentAt net h) [ none ↦ [] | some g ↦ routeOf net n g ]
 
 -- the route of a hop, "routes 8 hops deep": it is whole where no reference is bad
 unfoldable pub route : Network → ℕ → List ℕ

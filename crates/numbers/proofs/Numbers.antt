@@ -16,7 +16,7 @@ use Rattle.frame.specs.Frame.{lineOf, lineOverhead, protocolOverhead, leastFram
 use Rattle.frame.specs.Packets.{fullPacket, packets}
 use Rattle.frame.specs.Offered.{greatestMessage, packetsOf}
 use Rattle.frame.specs.Tick.{perByte, sendBase, sendLimit, sendsInTime}
-use Rattle.network.specs.Network.{Stream}
+use Rattle.network.specs.declared.Stream.{Stream}
 use Rattle.network.specs.Views.{hopsOn, vlsOf, streamsOn}
 use Rattle.rows.specs.Links.{sendMost, sendSum, hopMost}
 use Rattle.rows.specs.Queues.{queueFlow, queueFlows, queueLength, queueFigure}

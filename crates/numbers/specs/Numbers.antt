@@ -14,7 +14,9 @@ use Rattle.frame.specs.Frame.{lineOf}
 use Rattle.frame.specs.Packets.{fullPacket}
 use Rattle.frame.specs.Offered.{packetsOf}
 use Rattle.frame.specs.Tick.{perByte}
-use Rattle.network.specs.Network.{Stream, Network}
+use Rattle.network.specs.declared.Stream.{Stream}
+use Rattle.network.specs.declared.Parent.the-variants.{Root}
+use Rattle.network.specs.Network.{Network}
 use Rattle.rows.specs.Links.{sendSum}
 use Rattle.rows.specs.Queues.{queueLength, queueFigure}
 use Rattle.rows.specs.Ports.{portLength, portFigure}
@@ -28,11 +30,11 @@ small n lmaxes streams = record {
   sendGreatest = 0;
   receiveLeast = 0;
   receiveGreatest = 0;
-  systems = record { perByte = perByte Mbit100 } ∷ [];
-  vls = map (λ lmax. record { system = 0; gap = 12500; subLinks = n; lmax = lmax }) lmaxes;
+  systems = record { perbyte = perByte Mbit100 } ∷ [];
+  vls = map (λ lmax. record { system = 0; gap = 12500; sublinks = n; lmax = lmax }) lmaxes;
   streams = streams;
-  ports = record { perByte = perByte Mbit100; delayLeast = 0; delayGreatest = 0 } ∷ [];
-  hops = tabulate (λ v. record { vl = v; port = 0; parent = none }) (length lmaxes);
+  ports = record { perbyte = perByte Mbit100; least = 0; greatest = 0 } ∷ [];
+  hops = tabulate (λ v. record { vl = v; port = 0; parent = Root }) (length lmaxes);
 }
 
 -- for 3 to 7: one VL, of Lmax 1,518, with n sub-links
@@ -41,7 +43,7 @@ queueNet n streams = small n (1518 ∷ []) streams
 
 -- a stream on its first sub-link, by p, T and J: a message is p full packets
 abbrev pub stream : ℕ → ℕ → ℕ → Stream
-stream p t j = record { vl = 0; subLink = 0; sampling = false; size = p * fullPacket 1518; leastSize = p * fullPacket 1518; period = t; jitter = j }
+stream p t j = record { vl = 0; sublink = 0; sampling = false; size = p * fullPacket 1518; least = p * fullPacket 1518; period = t; jitter = j }
 
 -- for 8: one hop, of cost 20 + 1,518
 abbrev pub portNet : Network

@@ -31,32 +31,32 @@ module _ (net : Network) (sound : Sound net) (busy : Busy net) where
   unfolding figureOf portStation
   port-figure g h = figure-least net sound busy g h
 
-  least-packets : (s : ℕ) → s < length (net .streams) → 1 ≤ packets (streamAt net s .leastSize) (vlAt net (streamAt net s .vl) .lmax)
+  least-packets : (s : ℕ) → s < length (net .streams) → 1 ≤ packets (streamAt net s .least) (vlAt net (streamAt net s .vl) .lmax)
   least-packets s h =
-      packets-pos (vlAt net (streamAt net s .vl) .lmax) (streamAt net s .leastSize) (sound .lmax-least (streamAt net s .vl) (sound .references .stream-vl s h)) (sound .least-size s h)
+      packets-pos (vlAt net (streamAt net s .vl) .lmax) (streamAt net s .least) (sound .lmax-least (streamAt net s .vl) (sound .references .stream-vl s h)) (sound .least-size s h)
 
   -- the least message's packets, a gap each, are no more than the cost of the stream's flow
   queue-station : (s : ℕ) → s < length (net .streams)
-      → packets (streamAt net s .leastSize) (vlAt net (streamAt net s .vl) .lmax) * vlAt net (streamAt net s .vl) .gap ≤ queueStation net (streamAt net s .vl) (streamAt net s .subLink)
+      → packets (streamAt net s .least) (vlAt net (streamAt net s .vl) .lmax) * vlAt net (streamAt net s .vl) .gap ≤ queueStation net (streamAt net s .vl) (streamAt net s .sublink)
   unfolding queueFlows streamsOn
   queue-station s h =
       let v = streamAt net s .vl in
-      let k = streamAt net s .subLink in
+      let k = streamAt net s .sublink in
       let gap = vlAt net v .gap in
-      let p = packets (streamAt net s .leastSize) (vlAt net v .lmax) in
+      let p = packets (streamAt net s .least) (vlAt net v .lmax) in
       let q = packets (streamAt net s .size) (vlAt net v .lmax) in
-      let listed = is-passing (λ z. eqb (streamAt net z .vl) v && eqb (streamAt net z .subLink) k) (length (net .streams)) s h (both (eqb v v) (eqb k k) (eqb-refl v) (eqb-refl k)) in
+      let listed = is-passing (λ z. eqb (streamAt net z .vl) v && eqb (streamAt net z .sublink) k) (length (net .streams)) s h (both (eqb v v) (eqb k k) (eqb-refl v) (eqb-refl k)) in
       let c = cost-covered (queueFlow net) s (queueStation net v k) (streamsOn net v k) listed (queue-covers net sound busy v k 0) in
-      let more : p ≤ q = packets-mono (vlAt net v .lmax) (streamAt net s .leastSize) (streamAt net s .size) (sound .lmax-least v (sound .references .stream-vl s h)) (sound .size s h) in
-      let a : 1 * gap ≤ vlAt net v .subLinks * gap = mul-le-mul-right gap (omega (arith, sound .references .stream-sub-link s h)) in
+      let more : p ≤ q = packets-mono (vlAt net v .lmax) (streamAt net s .least) (streamAt net s .size) (sound .lmax-least v (sound .references .stream-vl s h)) (sound .size s h) in
+      let a : 1 * gap ≤ vlAt net v .sublinks * gap = mul-le-mul-right gap (omega (arith, sound .references .stream-sub-link s h)) in
       let b : p * gap ≤ q * gap = mul-le-mul-right gap more in
-      let d : q * gap ≤ q * (vlAt net v .subLinks * gap) = mul-le-mul-left q (omega (arith, a)) in
+      let d : q * gap ≤ q * (vlAt net v .sublinks * gap) = mul-le-mul-left q (omega (arith, a)) in
       omega (arith, c, b, d, flow-cost net s)
 
   row-jitter : (s h : ℕ) → s < length (net .streams) → h < length (net .hops) → hopAt net h .vl ≡ streamAt net s .vl → best net s h ≤ worst net s h
   row-jitter s h hs hh of =
       let gap = vlAt net (streamAt net s .vl) .gap in
-      let p = packets (streamAt net s .leastSize) (vlAt net (streamAt net s .vl) .lmax) in
+      let p = packets (streamAt net s .least) (vlAt net (streamAt net s .vl) .lmax) in
       let one : p ≡ 1 + (p - 1) = omega (arith, least-packets s hs) in
       let g : p * gap ≡ (1 + (p - 1)) * gap = ap (λ (n : ℕ). n * gap) one in
       omega (

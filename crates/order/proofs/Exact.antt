@@ -15,7 +15,7 @@ use Rattle.base.specs.Tests.{isSome, numberOr0}
 use Rattle.base.proofs.LeastLaws.{least-is, least-none, least-was, none-was, least-exists}
 use Rattle.base.proofs.TabulateLaws.{passing-member}
 use Rattle.base.proofs.TestLaws.{some-is, none-is, is-some-was, is-none-was}
-use Rattle.network.specs.Network.{Network, vlAt, streamAt, hopAt}
+use Rattle.network.specs.Network.{Network, vlAt, streamAt, hopAt, parentAt}
 use Rattle.network.specs.ReferenceFacts.{References}
 use Rattle.station.specs.Station.{Flow, load, limit, busyLength}
 use Rattle.station.proofs.Facts.{no-busy-length-is}
@@ -46,17 +46,17 @@ endless-flows fs = (
 
 -- ---- the sub-links of a VL
 module _ (net : Network) (v : ℕ) where
-  stream-on : (k s : ℕ) → List·Memᴰ s (streamsOn net v k) → (s < length (net .streams)) × (streamAt net s .vl ≡ v) × (streamAt net s .subLink ≡ k)
+  stream-on : (k s : ℕ) → List·Memᴰ s (streamsOn net v k) → (s < length (net .streams)) × (streamAt net s .vl ≡ v) × (streamAt net s .sublink ≡ k)
   unfolding streamsOn
   stream-on k s m =
       let of-vl = eqb (streamAt net s .vl) v in
-      let of-sub-link = eqb (streamAt net s .subLink) k in
-      let is = passing-member (λ s. eqb (streamAt net s .vl) v && eqb (streamAt net s .subLink) k) (length (net .streams)) s m in
+      let of-sub-link = eqb (streamAt net s .sublink) k in
+      let is = passing-member (λ s. eqb (streamAt net s .vl) v && eqb (streamAt net s .sublink) k) (length (net .streams)) s m in
       let both = and-eq-true-iff of-vl of-sub-link .0 (is .1) in
       (is .0, eqb-true _ _ (both .0), eqb-true _ _ (both .1))
 
   -- one that has no busy length has a stream: without any the length 1 serves
-  endless-has-stream : (k : ℕ) → k < vlAt net v .subLinks → NoLength (queueFlows net v k) → EndlessQueue net v
+  endless-has-stream : (k : ℕ) → k < vlAt net v .sublinks → NoLength (queueFlows net v k) → EndlessQueue net v
   unfolding queueFlows load
   endless-has-stream k h none-serves = go (streamsOn net v k) refl
     where
@@ -78,9 +78,9 @@ module _ (net : Network) (v : ℕ) where
   unfolding endlessSubLink queueLength
   endless-queue = (
     λ e. (let k = numberOr0 (endlessSubLink net v) in
-        let was = least-was (λ k. not (isSome (queueLength net v k))) 0 (vlAt net v .subLinks) k (is-some-was (endlessSubLink net v) e) in
+        let was = least-was (λ k. not (isSome (queueLength net v k))) 0 (vlAt net v .sublinks) k (is-some-was (endlessSubLink net v) e) in
         endless-has-stream k (omega (arith, was .high)) (endless-flows (queueFlows net v k) .0 (was .passes))),
-    λ q. (let there = least-exists (λ k. not (isSome (queueLength net v k))) 0 (vlAt net v .subLinks) (q .sub-link) (omega arith) (omega (arith, q .there))
+    λ q. (let there = least-exists (λ k. not (isSome (queueLength net v k))) 0 (vlAt net v .sublinks) (q .sub-link) (omega arith) (omega (arith, q .there))
         (endless-flows (queueFlows net v (q .sub-link)) .1 (q .no-length)) in
         some-is (endlessSubLink net v) (there .at) (there .is)),
   )
@@ -101,10 +101,10 @@ flows-of net refs p figureAt jitterAt lower = port-flows-same net jitterAt (jitt
   where
     same : (n h : ℕ) → h < length (net .hops) → hopAt net h .port < n → n ≤ suc p → jitterAt h ≡ jitterOf net h
     same zero h l k b = absurd (omega arith)
-    same (suc n) h l k b = go (λ g. same n g) (hopAt net h .parent) refl
+    same (suc n) h l k b = go (λ g. same n g) (parentAt net h) refl
       where
         go : ((g : ℕ) → g < length (net .hops) → hopAt net g .port < n → n ≤ suc p → jitterAt g ≡ jitterOf net g)
-            → (o : Option ℕ) → hopAt net h .parent ≡ o → jitterAt h ≡ jitterOf net h
+            → (o : Option ℕ) → parentAt net h ≡ o → jitterAt h ≡ jitterOf net h
         go ih none e = lower .root-is h l (omega arith) e ∙ sym (figures-of net refs .root-is h l e)
         go ih (some g) e =
             let row : g < length (net .hops) = omega (arith, refs .parent-earlier h g l e) in

@@ -18,7 +18,7 @@ use Rattle.base.proofs.LeastLaws.{least-was}
 use Rattle.base.proofs.Members.{member-at}
 use Rattle.base.proofs.TabulateLaws.{passing-member, member-passing}
 use Rattle.base.proofs.TestLaws.{is-some-was}
-use Rattle.network.specs.Network.{Network, streamAt, hopAt}
+use Rattle.network.specs.Network.{Network, streamAt, hopAt, parentAt}
 use Rattle.network.specs.ReferenceFacts.{References}
 use Rattle.table.specs.Sections.{lent}
 use Rattle.table.proofs.LentLaws.{lent-at}
@@ -83,14 +83,14 @@ module _ (net : Network) where
   record Child (h : ℕ) : Type 0 where
     at : ℕ
     row : at < length (net .hops)
-    parent : hopAt net at .parent ≡ some h
+    parent : parentAt net at ≡ some h
 
   child-of : (h : ℕ) → leaf net h ≡ false → Child h
   unfolding leaf
   child-of h e =
-      let o = leastFrom (λ g. isParent h (hopAt net g .parent)) 0 (length (net .hops)) in
-      let r = least-was (λ g. isParent h (hopAt net g .parent)) 0 (length (net .hops)) (numberOr0 o) (is-some-was o (not-false (isSome o) e)) in
-      record { at = numberOr0 o; row = omega (arith, r .high); parent = parent-was h (hopAt net (numberOr0 o) .parent) (r .passes) }
+      let o = leastFrom (λ g. isParent h (parentAt net g)) 0 (length (net .hops)) in
+      let r = least-was (λ g. isParent h (parentAt net g)) 0 (length (net .hops)) (numberOr0 o) (is-some-was o (not-false (isSome o) e)) in
+      record { at = numberOr0 o; row = omega (arith, r .high); parent = parent-was h (parentAt net (numberOr0 o)) (r .passes) }
 
   -- so from a hop of a VL on there is a leaf: children stand behind their parents, at most n rows on
   record LeafOf (v : ℕ) : Type 0 where

@@ -47,14 +47,14 @@ module _ (net : Network) where
     references = refs;
     send = ranges .send-least;
     receive = ranges .receive-least;
-    system-speed = λ e h. takes-time (systemAt net e .perByte) (ranges .system e h);
+    system-speed = λ e h. takes-time (systemAt net e .perbyte) (ranges .system e h);
     gap = λ v h. omega (arith, ranges .vl v h .gap-least);
     lmax-least = λ v h. ranges .vl v h .lmax-least;
     lmax-greatest = λ v h. ranges .vl v h .lmax-greatest;
     least-size = λ s h. ranges .stream s h .least-size-least;
     size = λ s h. ranges .stream s h .least-size-greatest;
     period = λ s h. omega (arith, ranges .stream s h .period-least);
-    port-speed = λ p h. takes-time (portAt net p .perByte) (ranges .port p h .per-byte);
+    port-speed = λ p h. takes-time (portAt net p .perbyte) (ranges .port p h .per-byte);
     port-delay = λ p h. ranges .port p h .delay-least;
     sends-in-a-gap = λ v h. omega (arith, in-time none7 (vlAt net v .system) (refs .vl-system v h), ranges .vl v h .gap-least);
   }
@@ -65,10 +65,10 @@ module _ (net : Network) where
   busy refs none9 none10 = record {
     queue = λ s h.
         let v = streamAt net s .vl in
-        let k = streamAt net s .subLink in
+        let k = streamAt net s .sublink in
         let sub = no-row-was (endlessSubLink net) 0 (length (net .vls)) none9 v (omega arith) (omega (arith, refs .stream-vl s h)) in
         has (queueLength net v k)
-        (none-was (λ k. not (isSome (queueLength net v k))) 0 (vlAt net v .subLinks) k sub (omega arith) (omega (arith, refs .stream-sub-link s h)));
+        (none-was (λ k. not (isSome (queueLength net v k))) 0 (vlAt net v .sublinks) k sub (omega arith) (omega (arith, refs .stream-sub-link s h)));
     port = λ h l.
         let p = hopAt net h .port in
         has (portLength net (jitterOf net) p)

@@ -167,6 +167,6 @@ whole-case = record {
     by-worst = λ run n per t m l there e. holds .no-later run n per t m l there 1 (omega arith) (sym e);
     not-before-best = λ run n per t m l there e. holds .no-earlier run n per t m l there 1 (omega arith) (sym e);
   };
-  waits = holds .reached 0 (omega arith) (ap (λ (net : Network). vlAt net (streamAt net 0 .vl) .subLinks) network-is);
-  waits-1 = holds .reached 1 (omega arith) (ap (λ (net : Network). vlAt net (streamAt net 1 .vl) .subLinks) network-is);
+  waits = holds .reached 0 (omega arith) (ap (λ (net : Network). vlAt net (streamAt net 0 .vl) .sublinks) network-is);
+  waits-1 = holds .reached 1 (omega arith) (ap (λ (net : Network). vlAt net (streamAt net 1 .vl) .sublinks) network-is);
 }

@@ -53,16 +53,16 @@ pub record NothingCutOff (net : Network) : Type 0 where
   pub send-delay : net .sendLeast ≤ net .sendGreatest
   -- "the station figure less one BAG"
   pub queue :
-      (s : ℕ) → s < length (net .streams) → let v = streamAt net s .vl in let k = streamAt net s .subLink in
+      (s : ℕ) → s < length (net .streams) → let v = streamAt net s .vl in let k = streamAt net s .sublink in
       vlAt net v .gap ≤ figure (queueFlows net v k) (numberOr0 (queueLength net v k))
   -- "(20 + Lmax − 84) × ticks per byte of the end system"
   pub line : (v : ℕ) → v < length (net .vls) → leastLine ≤ largestLine (vlAt net v .lmax)
   -- "switch delay greatest − least"
-  pub switch-delay : (p : ℕ) → p < length (net .ports) → portAt net p .delayLeast ≤ portAt net p .delayGreatest
+  pub switch-delay : (p : ℕ) → p < length (net .ports) → portAt net p .least ≤ portAt net p .greatest
   -- "the parent's jitter + parent port's figure − 84 × its ticks per byte"
   pub child-jitter : (g : ℕ) → g < length (net .hops) → hopLine net g ≤ figureOf net g
   -- "(least packets − 1) × BAG"
-  pub least-packets : (s : ℕ) → s < length (net .streams) → 1 ≤ packets (streamAt net s .leastSize) (vlAt net (streamAt net s .vl) .lmax)
+  pub least-packets : (s : ℕ) → s < length (net .streams) → 1 ≤ packets (streamAt net s .least) (vlAt net (streamAt net s .vl) .lmax)
   -- "jitter = the stream's jitter + worst − best", for every hop of the stream's VL
   pub row-jitter : (s h : ℕ) → s < length (net .streams) → h < length (net .hops) → hopAt net h .vl ≡ streamAt net s .vl
       → best net s h ≤ worst net s h

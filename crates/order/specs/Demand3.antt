@@ -67,7 +67,7 @@ pub record Holds (net : Network) (rows : ℕ) (result : List ℕ) : Type 0 where
   -- "On a virtual link with one sub-link the queue figure is also reached: for each stream some permitted run makes a last packet wait
   -- exactly that many ticks."
   pub reached :
-      (i : ℕ) → i < rows → vlAt net (streamAt net (streamIn result i) .vl) .subLinks ≡ 1
+      (i : ℕ) → i < rows → vlAt net (streamAt net (streamIn result i) .vl) .sublinks ≡ 1
       → Reaches net (streamIn result i) (queueIn result i)
   -- "each destination": there is a row for each stream and each hop of its VL that is nobody's parent, and so one for each stream
   pub every-destination :

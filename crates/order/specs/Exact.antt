@@ -8,7 +8,7 @@ use mathlib.Core.Logic.{_↔_}
 use mathlib.Core.Option.{none, some}
 use mathlib.Core.Path.{_≡_}
 use lib.ListN.{length}
-use Rattle.network.specs.Network.{Network, vlAt, streamAt, hopAt}
+use Rattle.network.specs.Network.{Network, vlAt, streamAt, hopAt, parentAt}
 use Rattle.station.specs.Station.{Flow, load}
 use Rattle.table.specs.Answers.{answer, accepted}
 use Rattle.table.specs.Read.{networkIn, readAnswer}
@@ -29,18 +29,18 @@ pub record NoLength (fs : List Flow) : Type 0 where
 -- 9: "a sub-link's queue has no busy length", of a sub-link of VL v that has a stream
 pub record EndlessQueue (net : Network) (v : ℕ) : Type 0 where
   pub sub-link : ℕ
-  pub there : sub-link < vlAt net v .subLinks
+  pub there : sub-link < vlAt net v .sublinks
   pub stream : ℕ
   pub stream-there : stream < length (net .streams)
   pub stream-vl : streamAt net stream .vl ≡ v
-  pub stream-sub-link : streamAt net stream .subLink ≡ sub-link
+  pub stream-sub-link : streamAt net stream .sublink ≡ sub-link
   pub no-length : NoLength (queueFlows net v sub-link)
 
 -- jitters from the lower ports' figures: figures of the ports below p, and jitters of the hops on ports up to p, that keep 01's rules
 pub record FromLower (net : Network) (p : ℕ) (figureAt jitterAt : ℕ → ℕ) : Type 0 where
   pub figure-is : (q : ℕ) → q < p → figureAt q ≡ portFigure net jitterAt q
-  pub root-is : (h : ℕ) → h < length (net .hops) → hopAt net h .port ≤ p → hopAt net h .parent ≡ none → jitterAt h ≡ rootJitter net h
-  pub child-is : (h g : ℕ) → h < length (net .hops) → hopAt net h .port ≤ p → hopAt net h .parent ≡ some g
+  pub root-is : (h : ℕ) → h < length (net .hops) → hopAt net h .port ≤ p → parentAt net h ≡ none → jitterAt h ≡ rootJitter net h
+  pub child-is : (h g : ℕ) → h < length (net .hops) → hopAt net h .port ≤ p → parentAt net h ≡ some g
       → jitterAt h ≡ childJitter net h g (jitterAt g) (figureAt (hopAt net g .port))
 
 -- 10: "a port has no busy length", with such jitters

@@ -8,7 +8,8 @@ use native.Mathlib.Omega.{arith}
 use borrow.Author.Tests.{lt-ltb, le-ltb, eq-eqb, ne-eqb}
 use lib.Dec.{ltb, eqb}
 use lib.ListN.{length, getD}
-use Rattle.network.specs.Network.{Network, Hop, vlAt, streamAt, hopAt}
+use Rattle.network.specs.declared.Hop.{Hop}
+use Rattle.network.specs.Network.{Network, vlAt, streamAt, hopAt, parentAt}
 use Rattle.network.specs.References.{namesSystem, hasHop, streamNamesVl, namesSubLink, parentEarlier, parentSameVl, parentLowerPort, twinOf, refFault}
 use Rattle.network.proofs.ReferenceTests.{has-hop}
 use Rattle.network.proofs.ReferenceLaws.{vl-row, stream-row}
@@ -53,7 +54,7 @@ module _ (ls : Lists) (i : ℕ) (h : i < length (ls .vls) / 4) where
   system-of-vl : vlAt (networkOf ls) i .system ≡ getD (ls .vls) (i * 4) 0
   system-of-vl = vl-system ls i (omega (arith, vls-records ls)) ∙ vl-number ls i 0 ∙ first-number (ls .vls) (i * 4)
 
-  pub sub-links-of-vl : vlAt (networkOf ls) i .subLinks ≡ getD (ls .vls) (i * 4 + 2) 0
+  pub sub-links-of-vl : vlAt (networkOf ls) i .sublinks ≡ getD (ls .vls) (i * 4 + 2) 0
   sub-links-of-vl = vl-sub-links ls i (omega (arith, vls-records ls)) ∙ vl-number ls i 2
 
   pub lmax-of-vl : vlAt (networkOf ls) i .lmax ≡ getD (ls .vls) (i * 4 + 3) 0
@@ -63,7 +64,7 @@ module _ (ls : Lists) (i : ℕ) (h : i < length (ls .streams) / 7) where
   pub vl-of-stream : streamAt (networkOf ls) i .vl ≡ getD (ls .streams) (i * 7) 0
   vl-of-stream = stream-vl ls i (omega (arith, streams-records ls)) ∙ stream-number ls i 0 ∙ first-number (ls .streams) (i * 7)
 
-  sub-link-of-stream : streamAt (networkOf ls) i .subLink ≡ getD (ls .streams) (i * 7 + 1) 0
+  sub-link-of-stream : streamAt (networkOf ls) i .sublink ≡ getD (ls .streams) (i * 7 + 1) 0
   sub-link-of-stream = stream-sub-link ls i (omega (arith, streams-records ls)) ∙ stream-number ls i 1
 
   pub sampling-of-stream : streamAt (networkOf ls) i .sampling ≡ eqb (getD (ls .streams) (i * 7 + 2) 0) 1
@@ -79,10 +80,10 @@ module _ (ls : Lists) (i : ℕ) (h : i < length (ls .hops) / 3) where
   pub port-of-hop : hopAt (networkOf ls) i .port ≡ getD (ls .hops) (i * 3 + 1) 0
   port-of-hop = hop-port ls i (omega (arith, hops-records ls)) ∙ hop-number ls i 1
 
-  pub parent-of-hop : hopAt (networkOf ls) i .parent ≡ parentOf (getD (ls .hops) (i * 3 + 2) 0)
+  pub parent-of-hop : parentAt (networkOf ls) i ≡ parentOf (getD (ls .hops) (i * 3 + 2) 0)
   parent-of-hop = hop-parent ls i (omega (arith, hops-records ls)) ∙ ap parentOf (hop-number ls i 2)
 
-pub parent-past : (ls : Lists) (i : ℕ) → length (ls .hops) / 3 ≤ i → hopAt (networkOf ls) i .parent ≡ parentOf 0
+pub parent-past : (ls : Lists) (i : ℕ) → length (ls .hops) / 3 ≤ i → parentAt (networkOf ls) i ≡ parentOf 0
 parent-past ls i h = ap (λ (x : Hop). x .parent) (hop-past ls i (omega (arith, hops-records ls))) ∙ sym parent-none
 
 -- ---- VLs
@@ -116,19 +117,19 @@ module _ (ls : Lists) (s : ℕ) (h : s < length (ls .streams) / 7) where
   stream-no-vl l = sym (row-refused (networkOf ls) 3 s 0 (stream-fails-0 (networkOf ls) s (stream-names-said ∙ le-ltb _ _ l)))
 
   module _ (named : getD (ls .streams) (s * 7) 0 < length (ls .vls) / 4) where
-    abbrev subLinks : ℕ
-    subLinks = getD (ls .vls) (getD (ls .streams) (s * 7) 0 * 4 + 2) 0
+    abbrev sublinks : ℕ
+    sublinks = getD (ls .vls) (getD (ls .streams) (s * 7) 0 * 4 + 2) 0
 
-    names-sub-link-said : namesSubLink (networkOf ls) s ≡ ltb (getD (ls .streams) (s * 7 + 1) 0) subLinks
+    names-sub-link-said : namesSubLink (networkOf ls) s ≡ ltb (getD (ls .streams) (s * 7 + 1) 0) sublinks
     names-sub-link-said =
         names-sub-link-is (networkOf ls) s
-        ∙ ap₂ ltb (sub-link-of-stream ls s h) (ap (λ (v : ℕ). vlAt (networkOf ls) v .subLinks) (vl-of-stream ls s h) ∙ sub-links-of-vl ls (getD (ls .streams) (s * 7) 0) named)
+        ∙ ap₂ ltb (sub-link-of-stream ls s h) (ap (λ (v : ℕ). vlAt (networkOf ls) v .sublinks) (vl-of-stream ls s h) ∙ sub-links-of-vl ls (getD (ls .streams) (s * 7) 0) named)
 
-    pub stream-no-sub-link : subLinks ≤ getD (ls .streams) (s * 7 + 1) 0 → answer 5 3 s 1 ≡ rowAnswer (networkOf ls) 3 s
+    pub stream-no-sub-link : sublinks ≤ getD (ls .streams) (s * 7 + 1) 0 → answer 5 3 s 1 ≡ rowAnswer (networkOf ls) 3 s
     stream-no-sub-link l =
         sym (row-refused (networkOf ls) 3 s 1 (stream-fails-1 (networkOf ls) s (stream-names-said ∙ lt-ltb _ _ named) (names-sub-link-said ∙ le-ltb _ _ l)))
 
-    pub stream-good : getD (ls .streams) (s * 7 + 1) 0 < subLinks → accepted ≡ rowAnswer (networkOf ls) 3 s
+    pub stream-good : getD (ls .streams) (s * 7 + 1) 0 < sublinks → accepted ≡ rowAnswer (networkOf ls) 3 s
     stream-good l =
         sym (row-accepted (networkOf ls) 3 s (stream-row (networkOf ls) s (stream-names-said ∙ lt-ltb _ _ named) (names-sub-link-said ∙ lt-ltb _ _ l)))
 
@@ -144,7 +145,7 @@ module _ (ls : Lists) (h : ℕ) (l : h < length (ls .hops) / 3) where
       rw (no-parent-earlier (networkOf ls) h no, no-parent-same-vl (networkOf ls) h no, no-parent-lower (networkOf ls) h no)
 
   module _ (some-parent : stored ≡ 0 → ⊥) where
-    is-parent : hopAt (networkOf ls) h .parent ≡ some (stored - 1)
+    is-parent : parentAt (networkOf ls) h ≡ some (stored - 1)
     is-parent = parent-of-hop ls h l ∙ parent-row stored some-parent
 
     pub parent-later : h ≤ stored - 1 → 2 ≡ parentFault (networkOf ls) h

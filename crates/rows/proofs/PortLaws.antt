@@ -8,7 +8,7 @@ use native.Mathlib.Nat.{le-refl}
 use native.Mathlib.Omega.{arith}
 use lib.ListN.{length}
 use Rattle.base.specs.Tests.{numberOr0}
-use Rattle.network.specs.Network.{Network, vlAt, hopAt}
+use Rattle.network.specs.Network.{Network, vlAt, hopAt, parentAt}
 use Rattle.network.specs.Views.{hopsOn}
 use Rattle.network.specs.ReferenceFacts.{References}
 use Rattle.network.proofs.PortLaws.{on-port}
@@ -34,7 +34,7 @@ module _ (net : Network) where
   port-figure-same i j p same = ap (λ (fs : List Flow). figure fs (numberOr0 (busyLength fs))) (port-flows-same i j p same)
 
   -- the rules for one hop, of a solution's step
-  jitter-root : (n h : ℕ) → hopAt net h .parent ≡ none → jitterBelow net (suc n) h ≡ rootJitter net h
+  jitter-root : (n h : ℕ) → parentAt net h ≡ none → jitterBelow net (suc n) h ≡ rootJitter net h
   unfolding jitterBelow
   jitter-root n h e = ap (λ (o : Option ℕ). elim o [
     | none ↦ rootJitter net h
@@ -42,7 +42,7 @@ module _ (net : Network) where
   ]) e
 
   jitter-child :
-      (n h g : ℕ) → hopAt net h .parent ≡ some g
+      (n h g : ℕ) → parentAt net h ≡ some g
       → jitterBelow net (suc n) h ≡ childJitter net h g (jitterBelow net n g) (portFigure net (jitterBelow net n) (hopAt net g .port))
   unfolding jitterBelow
   jitter-child n h g e = ap (λ (o : Option ℕ). elim o [
@@ -51,17 +51,17 @@ module _ (net : Network) where
   ]) e
 
   module _ (refs : References net) where
-    row-of-parent : (h g : ℕ) → h < length (net .hops) → hopAt net h .parent ≡ some g → g < length (net .hops)
+    row-of-parent : (h g : ℕ) → h < length (net .hops) → parentAt net h ≡ some g → g < length (net .hops)
     row-of-parent h g l e = omega (arith, refs .parent-earlier h g l e)
 
     -- once the hop's port is below n, more ports change nothing
     settled : (n m h : ℕ) → h < length (net .hops) → hopAt net h .port < n → n ≤ m → jitterBelow net n h ≡ jitterBelow net m h
     settled zero m h l k b = absurd (omega arith)
     settled (suc n) zero h l k b = absurd (omega arith)
-    settled (suc n) (suc m) h l k b = go (λ g. settled n m g) (hopAt net h .parent) refl
+    settled (suc n) (suc m) h l k b = go (λ g. settled n m g) (parentAt net h) refl
       where
         go : ((g : ℕ) → g < length (net .hops) → hopAt net g .port < n → n ≤ m → jitterBelow net n g ≡ jitterBelow net m g)
-            → (o : Option ℕ) → hopAt net h .parent ≡ o → jitterBelow net (suc n) h ≡ jitterBelow net (suc m) h
+            → (o : Option ℕ) → parentAt net h ≡ o → jitterBelow net (suc n) h ≡ jitterBelow net (suc m) h
         go ih none e = jitter-root n h e ∙ sym (jitter-root m h e)
         go ih (some g) e =
             let row = row-of-parent h g l e in
@@ -76,12 +76,12 @@ module _ (net : Network) where
     unfolding figureOf jitterOf
     figures-of = record { figure-is = λ h l. refl; root-is = λ h l e. root (length (net .ports)) h e (refs .hop-port h l); child-is = λ h g l e. child (length (net .ports)) h g l e (refs .hop-port h l) }
       where
-        root : (n h : ℕ) → hopAt net h .parent ≡ none → hopAt net h .port < n → jitterBelow net n h ≡ rootJitter net h
+        root : (n h : ℕ) → parentAt net h ≡ none → hopAt net h .port < n → jitterBelow net n h ≡ rootJitter net h
         root zero h e k = absurd (omega arith)
         root (suc n) h e k = jitter-root n h e
 
         child :
-            (n h g : ℕ) → h < length (net .hops) → hopAt net h .parent ≡ some g → hopAt net h .port < n
+            (n h g : ℕ) → h < length (net .hops) → parentAt net h ≡ some g → hopAt net h .port < n
             → jitterBelow net n h ≡ childJitter net h g (jitterBelow net n g) (portFigure net (jitterBelow net n) (hopAt net g .port))
         child zero h g l e k = absurd (omega arith)
         child (suc n) h g l e k =
@@ -95,9 +95,9 @@ module _ (net : Network) where
     module _ (f₁ j₁ f₂ j₂ : ℕ → ℕ) (one : Figures net f₁ j₁) (two : Figures net f₂ j₂) where
       same-below : (n h : ℕ) → h < length (net .hops) → hopAt net h .port < n → j₁ h ≡ j₂ h
       same-below zero h l k = absurd (omega arith)
-      same-below (suc n) h l k = go (λ g. same-below n g) (hopAt net h .parent) refl
+      same-below (suc n) h l k = go (λ g. same-below n g) (parentAt net h) refl
         where
-          go : ((g : ℕ) → g < length (net .hops) → hopAt net g .port < n → j₁ g ≡ j₂ g) → (o : Option ℕ) → hopAt net h .parent ≡ o → j₁ h ≡ j₂ h
+          go : ((g : ℕ) → g < length (net .hops) → hopAt net g .port < n → j₁ g ≡ j₂ g) → (o : Option ℕ) → parentAt net h ≡ o → j₁ h ≡ j₂ h
           go ih none e = one .root-is h l e ∙ sym (two .root-is h l e)
           go ih (some g) e =
               let row = row-of-parent h g l e in

@@ -13,15 +13,15 @@ use Rattle.network.specs.Views.{vlsOf}
 -- ---- an end system's link
 -- "(20 + Lmax) × ticks per byte" of VL v's end system
 unfoldable pub sendMost : Network → ℕ → ℕ
-sendMost net v = largestLine (vlAt net v .lmax) * systemAt net (vlAt net v .system) .perByte
+sendMost net v = largestLine (vlAt net v .lmax) * systemAt net (vlAt net v .system) .perbyte
 
 -- "84 bytes" on the link of VL v's end system
 unfoldable pub sendLine : Network → ℕ → ℕ
-sendLine net v = leastLine * systemAt net (vlAt net v .system) .perByte
+sendLine net v = leastLine * systemAt net (vlAt net v .system) .perbyte
 
 -- "(20 + Lmax − 84) × ticks per byte of the end system"
 unfoldable pub sendSpread : Network → ℕ → ℕ
-sendSpread net v = (largestLine (vlAt net v .lmax) - leastLine) * systemAt net (vlAt net v .system) .perByte
+sendSpread net v = (largestLine (vlAt net v .lmax) - leastLine) * systemAt net (vlAt net v .system) .perbyte
 
 -- 7: "the sum of (20 + Lmax) × ticks per byte over an end system's VLs"
 unfoldable pub sendSum : Network → ℕ → ℕ
@@ -35,12 +35,12 @@ muxWait net v =
 -- ---- a port's link, for the frames of a hop on it
 -- "C = (20 + Lmax) × ticks per byte of the port"
 unfoldable pub hopMost : Network → ℕ → ℕ
-hopMost net h = largestLine (vlAt net (hopAt net h .vl) .lmax) * portAt net (hopAt net h .port) .perByte
+hopMost net h = largestLine (vlAt net (hopAt net h .vl) .lmax) * portAt net (hopAt net h .port) .perbyte
 
 -- "84 × its ticks per byte"
 unfoldable pub hopLine : Network → ℕ → ℕ
-hopLine net h = leastLine * portAt net (hopAt net h .port) .perByte
+hopLine net h = leastLine * portAt net (hopAt net h .port) .perbyte
 
 -- "this port's switch delay greatest − least"
 unfoldable pub hopSpread : Network → ℕ → ℕ
-hopSpread net h = portAt net (hopAt net h .port) .delayGreatest - portAt net (hopAt net h .port) .delayLeast
+hopSpread net h = portAt net (hopAt net h .port) .greatest - portAt net (hopAt net h .port) .least

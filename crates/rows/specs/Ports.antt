@@ -6,7 +6,7 @@ use mathlib.Core.Option.{Option, none, some}
 use mathlib.Core.Path.{_≡_}
 use lib.ListN.{length}
 use Rattle.base.specs.Tests.{numberOr0}
-use Rattle.network.specs.Network.{Network, vlAt, hopAt}
+use Rattle.network.specs.Network.{Network, vlAt, hopAt, parentAt}
 use Rattle.network.specs.Views.{hopsOn}
 use Rattle.station.specs.Station.{Flow, busyLength, figure}
 use Rattle.rows.specs.Links.{sendSpread, muxWait, hopMost, hopLine, hopSpread}
@@ -35,14 +35,14 @@ childJitter net h g parentJitter parentFigure = parentJitter + (parentFigure - h
 -- figures and jitters of the hops that keep these rules; a figure is read per hop
 pub record Figures (net : Network) (figureAt jitterAt : ℕ → ℕ) : Type 0 where
   pub figure-is : (h : ℕ) → h < length (net .hops) → figureAt h ≡ portFigure net jitterAt (hopAt net h .port)
-  pub root-is : (h : ℕ) → h < length (net .hops) → hopAt net h .parent ≡ none → jitterAt h ≡ rootJitter net h
-  pub child-is : (h g : ℕ) → h < length (net .hops) → hopAt net h .parent ≡ some g
+  pub root-is : (h : ℕ) → h < length (net .hops) → parentAt net h ≡ none → jitterAt h ≡ rootJitter net h
+  pub child-is : (h g : ℕ) → h < length (net .hops) → parentAt net h ≡ some g
       → jitterAt h ≡ childJitter net h g (jitterAt g) (figureAt g)
 
 -- the one solution, for parents on lower-numbered ports: what the hops on ports below n have
 unfoldable pub jitterBelow : Network → ℕ → ℕ → ℕ
 jitterBelow net zero h = 0
-jitterBelow net (suc n) h = elim (hopAt net h .parent) [
+jitterBelow net (suc n) h = elim (parentAt net h) [
   | none ↦ rootJitter net h
   | some g ↦ childJitter net h g (jitterBelow net n g) (portFigure net (jitterBelow net n) (hopAt net g .port))
 ]

@@ -16,7 +16,7 @@ queueFlow net s =
     record {
       period = streamAt net s .period;
       jitter = streamAt net s .jitter + (net .sendGreatest - net .sendLeast);
-      cost = packets (streamAt net s .size) (vlAt net v .lmax) * vlAt net v .subLinks * vlAt net v .gap;
+      cost = packets (streamAt net s .size) (vlAt net v .lmax) * vlAt net v .sublinks * vlAt net v .gap;
     }
 
 unfoldable pub queueFlows : Network → ℕ → ℕ → List Flow

@@ -31,7 +31,7 @@ tooShort net room = ltb room (6 * length (rowsOf net))
 
 -- 9: "a sub-link's queue has no busy length", of the sub-links of VL v (one without streams has the length 1)
 unfoldable pub endlessSubLink : Network → ℕ → Option ℕ
-endlessSubLink net v = leastFrom (λ k. not (isSome (queueLength net v k))) 0 (vlAt net v .subLinks)
+endlessSubLink net v = leastFrom (λ k. not (isSome (queueLength net v k))) 0 (vlAt net v .sublinks)
 
 unfoldable pub endlessVl : Network → Option ℕ
 endlessVl net = leastFrom (λ v. isSome (endlessSubLink net v)) 0 (length (net .vls))

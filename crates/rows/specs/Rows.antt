@@ -13,14 +13,14 @@ use Rattle.rows.specs.Ports.{figureOf}
 
 -- the queue figure of a stream's sub-link
 unfoldable pub queueOf : Network → ℕ → ℕ
-queueOf net s = queueFigure net (streamAt net s .vl) (streamAt net s .subLink)
+queueOf net s = queueFigure net (streamAt net s .vl) (streamAt net s .sublink)
 
 -- "worst = greatest send delay + queue + mux wait + (20 + Lmax) × ticks per byte + over the route
 -- (greatest switch delay + port figure) + greatest receive delay"
 unfoldable pub worstParts : Network → (ℕ → ℕ) → ℕ → ℕ → List ℕ
 worstParts net figureAt s h =
     net .sendGreatest ∷ queueOf net s ∷ muxWait net (streamAt net s .vl) ∷ sendMost net (streamAt net s .vl)
-    ∷ (map (λ g. portAt net (hopAt net g .port) .delayGreatest + figureAt g) (route net h) ++ (net .receiveGreatest ∷ []))
+    ∷ (map (λ g. portAt net (hopAt net g .port) .greatest + figureAt g) (route net h) ++ (net .receiveGreatest ∷ []))
 
 unfoldable pub worst : Network → ℕ → ℕ → ℕ
 worst net s h = total (worstParts net (figureOf net) s h)
@@ -29,8 +29,8 @@ worst net s h = total (worstParts net (figureOf net) s h)
 unfoldable pub bestParts : Network → ℕ → ℕ → List ℕ
 bestParts net s h =
     let v = streamAt net s .vl in
-    net .sendLeast ∷ (packets (streamAt net s .leastSize) (vlAt net v .lmax) - 1) * vlAt net v .gap ∷ sendLine net v
-    ∷ (map (λ g. hopLine net g + portAt net (hopAt net g .port) .delayLeast) (route net h) ++ (net .receiveLeast ∷ []))
+    net .sendLeast ∷ (packets (streamAt net s .least) (vlAt net v .lmax) - 1) * vlAt net v .gap ∷ sendLine net v
+    ∷ (map (λ g. hopLine net g + portAt net (hopAt net g .port) .least) (route net h) ++ (net .receiveLeast ∷ []))
 
 unfoldable pub best : Network → ℕ → ℕ → ℕ
 best net s h = total (bestParts net s h)

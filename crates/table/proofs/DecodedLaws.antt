@@ -11,7 +11,12 @@ use lib.ListN.{length, getD, List·getD-eq-default}
 use Rattle.base.proofs.TabulateLaws.{length-tabulate, tabulate-at}
 use Rattle.frame.specs.Tick.{perMs}
 use Rattle.layout.proofs.LayoutLaws.{listed-is}
-use Rattle.network.specs.Network.{EndSystem, Vl, Stream, Port, Hop, noSystem, noVl, noStream, noPort, noHop, systemAt, vlAt, streamAt, portAt, hopAt}
+use Rattle.network.specs.declared.EndSystem.{EndSystem}
+use Rattle.network.specs.declared.Vl.{Vl}
+use Rattle.network.specs.declared.Stream.{Stream}
+use Rattle.network.specs.declared.Port.{Port}
+use Rattle.network.specs.declared.Hop.{Hop}
+use Rattle.network.specs.Network.{noSystem, noVl, noStream, noPort, noHop, systemAt, vlAt, streamAt, portAt, hopAt, parentAt}
 use Rattle.table.specs.Write.{Lists, listFor, recordsIn}
 use Rattle.table.specs.Decoded.{numberAt, ticksAt, parentOf, systemIn, vlIn, streamIn, portIn, hopIn, networkOf}
 
@@ -56,9 +61,9 @@ module _ (ls : Lists) where
 -- ---- end systems
 module _ (ls : Lists) (i : ℕ) where
   module _ (h : i < recordsIn ls 1) where
-    pub system-per-byte : systemAt (networkOf ls) i .perByte ≡ ticksAt (numberAt ls 1 i 0)
+    pub system-per-byte : systemAt (networkOf ls) i .perbyte ≡ ticksAt (numberAt ls 1 i 0)
     unfolding networkOf systemIn
-    system-per-byte = ap (λ (x : EndSystem). x .perByte) (tabulate-at (systemIn ls) (recordsIn ls 1) i noSystem h)
+    system-per-byte = ap (λ (x : EndSystem). x .perbyte) (tabulate-at (systemIn ls) (recordsIn ls 1) i noSystem h)
 
 -- ---- VLs
 module _ (ls : Lists) (i : ℕ) where
@@ -75,9 +80,9 @@ module _ (ls : Lists) (i : ℕ) where
     unfolding vlIn
     vl-gap = ap (λ (x : Vl). x .gap) vl-there
 
-    pub vl-sub-links : vlAt (networkOf ls) i .subLinks ≡ numberAt ls 2 i 2
+    pub vl-sub-links : vlAt (networkOf ls) i .sublinks ≡ numberAt ls 2 i 2
     unfolding vlIn
-    vl-sub-links = ap (λ (x : Vl). x .subLinks) vl-there
+    vl-sub-links = ap (λ (x : Vl). x .sublinks) vl-there
 
     pub vl-lmax : vlAt (networkOf ls) i .lmax ≡ numberAt ls 2 i 3
     unfolding vlIn
@@ -94,9 +99,9 @@ module _ (ls : Lists) (i : ℕ) where
     unfolding streamIn
     stream-vl = ap (λ (x : Stream). x .vl) stream-there
 
-    pub stream-sub-link : streamAt (networkOf ls) i .subLink ≡ numberAt ls 3 i 1
+    pub stream-sub-link : streamAt (networkOf ls) i .sublink ≡ numberAt ls 3 i 1
     unfolding streamIn
-    stream-sub-link = ap (λ (x : Stream). x .subLink) stream-there
+    stream-sub-link = ap (λ (x : Stream). x .sublink) stream-there
 
     pub stream-sampling : streamAt (networkOf ls) i .sampling ≡ eqb (numberAt ls 3 i 2) 1
     unfolding streamIn
@@ -106,9 +111,9 @@ module _ (ls : Lists) (i : ℕ) where
     unfolding streamIn
     stream-size = ap (λ (x : Stream). x .size) stream-there
 
-    pub stream-least-size : streamAt (networkOf ls) i .leastSize ≡ numberAt ls 3 i 4
+    pub stream-least-size : streamAt (networkOf ls) i .least ≡ numberAt ls 3 i 4
     unfolding streamIn
-    stream-least-size = ap (λ (x : Stream). x .leastSize) stream-there
+    stream-least-size = ap (λ (x : Stream). x .least) stream-there
 
     pub stream-period : streamAt (networkOf ls) i .period ≡ numberAt ls 3 i 5
     unfolding streamIn
@@ -125,17 +130,17 @@ module _ (ls : Lists) (i : ℕ) where
     unfolding networkOf
     port-there = tabulate-at (portIn ls) (recordsIn ls 4) i noPort h
 
-    pub port-per-byte : portAt (networkOf ls) i .perByte ≡ ticksAt (numberAt ls 4 i 0)
+    pub port-per-byte : portAt (networkOf ls) i .perbyte ≡ ticksAt (numberAt ls 4 i 0)
     unfolding portIn
-    port-per-byte = ap (λ (x : Port). x .perByte) port-there
+    port-per-byte = ap (λ (x : Port). x .perbyte) port-there
 
-    pub port-delay-least : portAt (networkOf ls) i .delayLeast ≡ numberAt ls 4 i 1
+    pub port-delay-least : portAt (networkOf ls) i .least ≡ numberAt ls 4 i 1
     unfolding portIn
-    port-delay-least = ap (λ (x : Port). x .delayLeast) port-there
+    port-delay-least = ap (λ (x : Port). x .least) port-there
 
-    pub port-delay-greatest : portAt (networkOf ls) i .delayGreatest ≡ numberAt ls 4 i 2
+    pub port-delay-greatest : portAt (networkOf ls) i .greatest ≡ numberAt ls 4 i 2
     unfolding portIn
-    port-delay-greatest = ap (λ (x : Port). x .delayGreatest) port-there
+    port-delay-greatest = ap (λ (x : Port). x .greatest) port-there
 
 -- ---- hops
 module _ (ls : Lists) (i : ℕ) where
@@ -155,7 +160,7 @@ module _ (ls : Lists) (i : ℕ) where
     unfolding hopIn
     hop-port = ap (λ (x : Hop). x .port) hop-there
 
-    pub hop-parent : hopAt (networkOf ls) i .parent ≡ parentOf (numberAt ls 5 i 2)
+    pub hop-parent : parentAt (networkOf ls) i ≡ parentOf (numberAt ls 5 i 2)
     unfolding hopIn
     hop-parent = ap (λ (x : Hop). x .parent) hop-there
 

@@ -87,7 +87,7 @@ speed mbit = ⊎-elim
     (λ (e : mbit ≡ 10). inr (rw (ne-eqb mbit 100 (λ f. omega arith)) per-byte-at-10))
 
 module _ (bytes : List ℕ) (sound : Sound bytes) (i : ℕ) where
-  system-range : i < rows bytes 1 → SpeedRange (systemAt (networkIn bytes) i .perByte)
+  system-range : i < rows bytes 1 → SpeedRange (systemAt (networkIn bytes) i .perbyte)
   unfolding networkIn
   system-range h =
       let at = count-read bytes 0 (omega arith) in

@@ -9,7 +9,12 @@ use Rattle.base.specs.Tabulate.{tabulate}
 use Rattle.frame.specs.Tick.{perMs, perByte}
 use Rattle.frame.specs.declared.Speed.the-variants.{Mbit100, Mbit10}
 use Rattle.layout.specs.Rows.{listed}
-use Rattle.network.specs.Network.{EndSystem, Vl, Stream, Port, Hop, Network}
+use Rattle.network.specs.declared.EndSystem.{EndSystem}
+use Rattle.network.specs.declared.Vl.{Vl}
+use Rattle.network.specs.declared.Stream.{Stream}
+use Rattle.network.specs.declared.Port.{Port}
+use Rattle.network.specs.declared.Hop.{Hop}
+use Rattle.network.specs.Network.{Network}
 use Rattle.table.specs.Write.{Lists, listFor, recordsIn}
 
 -- number k of record i of a section's list
@@ -26,30 +31,30 @@ parentOf zero = none
 parentOf (suc g) = some g
 
 unfoldable pub systemIn : Lists → ℕ → EndSystem
-systemIn ls i = record { perByte = ticksAt (numberAt ls 1 i 0) }
+systemIn ls i = record { perbyte = ticksAt (numberAt ls 1 i 0) }
 
 unfoldable pub vlIn : Lists → ℕ → Vl
 vlIn ls i = record {
   system = numberAt ls 2 i 0;
   gap = perMs * numberAt ls 2 i 1;
-  subLinks = numberAt ls 2 i 2;
+  sublinks = numberAt ls 2 i 2;
   lmax = numberAt ls 2 i 3;
 }
 
 unfoldable pub streamIn : Lists → ℕ → Stream
 streamIn ls i = record {
   vl = numberAt ls 3 i 0;
-  subLink = numberAt ls 3 i 1;
+  sublink = numberAt ls 3 i 1;
   -- "kind 1 (1: sampling)"
   sampling = eqb (numberAt ls 3 i 2) 1;
   size = numberAt ls 3 i 3;
-  leastSize = numberAt ls 3 i 4;
+  least = numberAt ls 3 i 4;
   period = numberAt ls 3 i 5;
   jitter = numberAt ls 3 i 6;
 }
 
 unfoldable pub portIn : Lists → ℕ → Port
-portIn ls i = record { perByte = ticksAt (numberAt ls 4 i 0); delayLeast = numberAt ls 4 i 1; delayGreatest = numberAt ls 4 i 2 }
+portIn ls i = record { perbyte = ticksAt (numberAt ls 4 i 0); least = numberAt ls 4 i 1; greatest = numberAt ls 4 i 2 }
 
 unfoldable pub hopIn : Lists → ℕ → Hop
 hopIn ls i = record { vl = numberAt ls 5 i 0; port = numberAt ls 5 i 1; parent = parentOf (numberAt ls 5 i 2) }

@@ -18,7 +18,7 @@ returns c =
     let stream = c .before .before .before .stream-at in
     let good = start .pre .0 in
     let is = queue-read net (start .args .queues .now) (start .args .s) (stream .result .vl) (stream .result .«sub_link») (start .pre .2) (stream .ensures .vl-there) (stream .ensures .sub-link-there) (stream .ensures .vl) (stream .ensures .sub-link) in
-    (is, omega (arith, is, queue-figure-bound net (good .ranges) (good .references) (streamAt net (start .args .s) .vl) (streamAt net (start .args .s) .subLink)))
+    (is, omega (arith, is, queue-figure-bound net (good .ranges) (good .references) (streamAt net (start .args .s) .vl) (streamAt net (start .args .s) .sublink)))
 
 pub queue-of-spec : {M : Type 1} → statement M
 queue-of-spec =
