@@ -1,25 +1,22 @@
 -- What is read off a sheet for a hop gives the ticks of its frames on its port's link, what is between its switch delays, and its jitter, by its parent's and the figure of its parent's port.
 -- Assumes nothing.
 use Prim.Native.Nat.{ℕ, _+_, _-_, _*_, _≤_, _<_}
-use mathlib.Core.Bool.{Bool, true, false}
 use mathlib.Core.List.{List}
 use mathlib.Core.Option.{none, some}
-use mathlib.Core.Path.{_≡_, ap, _∙_}
+use mathlib.Core.Path.{_≡_, ap}
 use native.Mathlib.Nat.{mul-le-mul}
 use native.Mathlib.Omega.{arith}
 use lib.ListN.{length, getD}
-use Rattle.base.specs.Pick.{pick}
 use Rattle.frame.specs.Frame.{lineOverhead, leastFrame, leastLine, largestLine}
-use Rattle.network.specs.Network.{Network, hopAt, parentAt}
+use Rattle.network.specs.declared.Vl.{Vl}
+use Rattle.network.specs.declared.Port.{Port}
+use Rattle.network.specs.declared.Hop.{Hop}
+use Rattle.network.specs.Network.{Network, vlAt, portAt, hopAt, parentAt}
 use Rattle.network.specs.ReferenceFacts.{References}
 use Rattle.network.specs.Ranges.{Ranges}
 use Rattle.rows.specs.Links.{sendSpread, hopMost, hopLine, hopSpread}
 use Rattle.rows.specs.Ports.{rootJitter, childJitter, jitterOf, figureOf}
 use Rattle.rows.proofs.PortLaws.{figures-of}
-use Rattle.analysis.specs.declared.sheet.Vl.{Vl}
-use Rattle.analysis.specs.declared.sheet.Port.{Port}
-use Rattle.analysis.specs.declared.sheet.Hop.{Hop}
-use Rattle.analysis.specs.Reading.{IsVl, IsPort, IsHop}
 use Rattle.analysis.specs.Computing.{Waits, Figures, Jitters}
 use Rattle.analysis.proofs.BoundLaws.{mux-wait-bound, port-figure-bound, jitter-bound}
 
@@ -27,58 +24,61 @@ use Rattle.analysis.proofs.BoundLaws.{mux-wait-bound, port-figure-bound
 pub frame-bound : (bytes ticks : ℕ) → 84 ≤ bytes → bytes ≤ 1538 → 1 ≤ ticks → ticks ≤ 10 → (84 ≤ bytes * ticks) × (bytes * ticks ≤ 15380)
 frame-bound bytes ticks a b c d = (omega (arith, mul-le-mul a c), omega (arith, mul-le-mul b d))
 
-module _ (net : Network) (h : ℕ) (hop : Hop) (is : IsHop net h hop) (port : Port) (on : IsPort net (hop .port) port) where
-  pub hop-most-is : (vl : Vl) → IsVl net (hop .vl) vl → (bytes : ℕ) → bytes ≡ largestLine (vl .lmax) → bytes * port .«per_byte» ≡ hopMost net h
+module _ (net : Network) (h : ℕ) (hop : Hop) (is : hop ≡ hopAt net h) (port : Port) (on : port ≡ portAt net (hop .port)) where
+  pub hop-most-is : (vl : Vl) → vl ≡ vlAt net (hop .vl) → (bytes : ℕ) → bytes ≡ largestLine (vl .lmax) → bytes * port .perbyte ≡ hopMost net h
   unfolding hopMost
-  hop-most-is vl of bytes e = cc
+  hop-most-is vl of bytes e = rw (e, of, on, is)
 
-  pub hop-least-is : 84 * port .«per_byte» ≡ hopLine net h
+  pub hop-least-is : 84 * port .perbyte ≡ hopLine net h
   unfolding hopLine leastLine lineOverhead leastFrame
-  hop-least-is = cc
+  hop-least-is = rw (on, is)
 
-  pub hop-spread-is : port .«delay_greatest» - port .«delay_least» ≡ hopSpread net h
+  pub hop-spread-is : port .greatest - port .least ≡ hopSpread net h
   unfolding hopSpread
-  hop-spread-is = cc
+  hop-spread-is = rw (on, is)
 
 -- ---- the jitter of a hop
-module _ (net : Network) (ranges : Ranges net) (refs : References net) (h : ℕ) (row : h < length (net .hops)) (hop : Hop) (is : IsHop net h hop) where
-  module _ (waits : List ℕ) (known : Waits net waits) where
+module _ (net : Network) (ranges : Ranges net) (refs : References net) (h : ℕ) (row : h < length (net .hops)) where
+  -- of a root
+  module _ (hop : Hop) (is : hop ≡ hopAt net h) (waits : List ℕ) (known : Waits net waits) where
+    vl-there : hop .vl < length (net .vls)
+    vl-there = rw is (refs .hop-vl h row)
+
     pub wait-bound : getD waits (hop .vl) 0 ≤ 3937280
-    wait-bound = omega (arith, known .wait-is (hop .vl) (is .vl-there), mux-wait-bound net ranges refs (hop .vl))
+    wait-bound = omega (arith, known .wait-is (hop .vl) vl-there, mux-wait-bound net ranges refs (hop .vl))
 
     pub root-jitter-is :
-        hop .root ≡ true → (send : ℕ) → send ≡ sendSpread net (hop .vl) → (spread : ℕ) → spread ≡ hopSpread net h
+        parentAt net h ≡ none → (send : ℕ) → send ≡ sendSpread net (hop .vl) → (spread : ℕ) → spread ≡ hopSpread net h
         → getD waits (hop .vl) 0 + send + spread ≡ jitterOf net h
     unfolding rootJitter
     root-jitter-is root send s spread d =
-        let none-is : parentAt net h ≡ none = is .parent ∙ ap (λ (b : Bool). pick b none (some (hop .parent))) root in
-        cc (known .wait-is (hop .vl) (is .vl-there), figures-of net refs .root-is h row none-is)
+        cc (known .wait-is (hop .vl) vl-there, figures-of net refs .root-is h row root, ap (λ (x : Hop). x .vl) is)
 
-  module _ (child : hop .root ≡ false) where
-    parent-is : parentAt net h ≡ some (hop .parent)
-    parent-is = is .parent ∙ ap (λ (b : Bool). pick b none (some (hop .parent))) child
+  -- of a hop after another
+  module _ (g : ℕ) (child : parentAt net h ≡ some g) where
+    parent-there : g < length (net .hops)
+    parent-there = omega (arith, refs .parent-earlier h g row child)
 
     module _ (jitters : List ℕ) (known : Jitters net jitters (hopAt net h .port)) where
-      parent-jitter : getD jitters (hop .parent) 0 ≡ jitterOf net (hop .parent)
-      parent-jitter = known .jitter-is (hop .parent) (is .parent-there) (refs .parent-port h (hop .parent) row parent-is)
+      parent-jitter : getD jitters g 0 ≡ jitterOf net g
+      parent-jitter = known .jitter-is g parent-there (refs .parent-port h g row child)
 
-      pub parent-jitter-bound : getD jitters (hop .parent) 0 ≤ 1100000000
-      parent-jitter-bound = omega (arith, parent-jitter, jitter-bound net ranges refs (hop .parent) (is .parent-there))
+      pub parent-jitter-bound : getD jitters g 0 ≤ 1100000000
+      parent-jitter-bound = omega (arith, parent-jitter, jitter-bound net ranges refs g parent-there)
 
-    module _ (parent : Hop) (of : IsHop net (hop .parent) parent) (figures : List ℕ) (known : Figures net figures (hopAt net h .port)) where
-      parent-figure : getD figures (parent .port) 0 ≡ figureOf net (hop .parent)
+    module _ (parent : Hop) (of : parent ≡ hopAt net g) (figures : List ℕ) (known : Figures net figures (hopAt net h .port)) where
+      parent-figure : getD figures (parent .port) 0 ≡ figureOf net g
       unfolding figureOf
-      parent-figure =
-          rw (of .port) (known .figure-is (hopAt net (hop .parent) .port) (refs .parent-port h (hop .parent) row parent-is))
+      parent-figure = rw of (known .figure-is (hopAt net g .port) (refs .parent-port h g row child))
 
       pub parent-figure-bound : getD figures (parent .port) 0 ≤ 125000000
       unfolding figureOf
-      parent-figure-bound = omega (arith, parent-figure, port-figure-bound net ranges refs (jitterOf net) (hopAt net (hop .parent) .port))
+      parent-figure-bound = omega (arith, parent-figure, port-figure-bound net ranges refs (jitterOf net) (hopAt net g .port))
 
       pub child-jitter-is :
-          (jitters : List ℕ) → Jitters net jitters (hopAt net h .port) → (least : ℕ) → least ≡ hopLine net (hop .parent)
+          (jitters : List ℕ) → Jitters net jitters (hopAt net h .port) → (least : ℕ) → least ≡ hopLine net g
           → (left : ℕ) → left ≡ getD figures (parent .port) 0 - least → (spread : ℕ) → spread ≡ hopSpread net h
-          → getD jitters (hop .parent) 0 + left + spread ≡ jitterOf net h
+          → getD jitters g 0 + left + spread ≡ jitterOf net h
       unfolding childJitter
       child-jitter-is jitters js least e left f spread d =
-          cc (parent-jitter jitters js, parent-figure, figures-of net refs .child-is h (hop .parent) row parent-is)
+          cc (parent-jitter jitters js, parent-figure, figures-of net refs .child-is h g row child)

@@ -12,15 +12,14 @@ use borrow.Author.Tests.{eq-eqb, ne-eqb}
 use lib.Dec.{eqb}
 use lib.ListN.{length, getD, set, length-set}
 use lib.Seq.{getD-set-same, getD-set-other}
+use Rattle.network.specs.declared.Vl.{Vl}
+use Rattle.network.specs.declared.Hop.{Hop}
 use Rattle.network.specs.Network.{Network, vlAt, hopAt}
 use Rattle.network.specs.Views.{hopsOn}
 use Rattle.station.specs.Station.{Flow}
 use Rattle.station.specs.Flat.{flowsIn}
 use Rattle.rows.specs.Links.{hopMost}
 use Rattle.rows.specs.Ports.{hopFlow, portFlows, jitterOf}
-use Rattle.analysis.specs.declared.sheet.Vl.{Vl}
-use Rattle.analysis.specs.declared.sheet.Hop.{Hop}
-use Rattle.analysis.specs.Reading.{IsVl, IsHop}
 use Rattle.analysis.specs.Computing.{Jitters}
 use Rattle.analysis.specs.Gathering.{Gathered}
 use Rattle.analysis.proofs.GatherLaws.{Gathers, gather-start, gather-taken, gather-passed}
@@ -60,7 +59,7 @@ module _ (net : Network) (p : ℕ) where
           (λ b. getD-set-same jitters h jitter 0 (omega (arith, so-far .lower .long)) ∙ j)
 
       pub gathering-taken :
-          (hop : Hop) → IsHop net h hop → (vl : Vl) → IsVl net (hop .vl) vl → (cost : ℕ) → cost ≡ hopMost net h
+          (hop : Hop) → hop ≡ hopAt net h → (vl : Vl) → vl ≡ vlAt net (hop .vl) → (cost : ℕ) → cost ≡ hopMost net h
           → (jitters-now : List ℕ) → jitters-now ≡ set jitters h jitter
           → (put : List ℕ) → (length put ≡ 3072) × (flowsIn put (count + 1) ≡ flowsIn flows count ++ (record { period = vl .gap; jitter = jitter; cost = cost } ∷ []))
           → (flows-now : List ℕ) → flows-now ≡ put → (count-now : ℕ) → count-now ≡ count + 1 → Gathering net p (h + 1) jitters-now flows-now count-now
@@ -77,7 +76,7 @@ module _ (net : Network) (p : ℕ) where
 
           flow-is : flow ≡ hopFlow net (jitterOf net) h
           flow-is =
-              let gap : vl .gap ≡ vlAt net (hopAt net h .vl) .gap = cc in
+              let gap : vl .gap ≡ vlAt net (hopAt net h .vl) .gap = rw (of, is) in
               λ i. record { period = gap i; jitter = j i; cost = c i }
 
     -- ---- one that is not

@@ -14,6 +14,8 @@ use Rattle.base.specs.Tests.{isSome}
 use Rattle.base.proofs.LeastLaws.{least-none, least-exists}
 use Rattle.base.proofs.TestLaws.{some-is, none-is}
 use Rattle.frame.specs.Packets.{packets}
+use Rattle.network.specs.declared.Vl.{Vl}
+use Rattle.network.specs.declared.Stream.{Stream}
 use Rattle.network.specs.Network.{Network, vlAt, streamAt}
 use Rattle.network.specs.Ranges.{Ranges}
 use Rattle.station.specs.Station.{Flow}
@@ -22,41 +24,39 @@ use Rattle.network.specs.Views.{streamsOn}
 use Rattle.rows.specs.Queues.{queueFlow, queueFlows, queueLength, queueFigure}
 use Rattle.rows.specs.Refusals.{endlessSubLink}
 use Rattle.analysis.specs.declared.sheet.Delays.{Delays}
-use Rattle.analysis.specs.declared.sheet.Vl.{Vl}
-use Rattle.analysis.specs.declared.sheet.Stream.{Stream}
 use Rattle.analysis.specs.declared.flows.Outcome.{Outcome}
-use Rattle.analysis.specs.Reading.{IsDelays, IsVl, IsStream}
+use Rattle.analysis.specs.Reading.{delaysIn}
 use Rattle.analysis.specs.Computing.{QueuesOf, Queues}
 use Rattle.analysis.specs.Gathering.{Gathered, Found}
 use Rattle.analysis.proofs.GatherLaws.{Gathers}
 
 -- ---- the flow of a stream, from what is read off the sheet
-pub queue-flow-is : (net : Network) (s p : ℕ) (d : Delays) (stream : Stream) (vl : Vl) → IsDelays net d → IsStream net s stream → IsVl net (stream .vl) vl
+pub queue-flow-is : (net : Network) (s p : ℕ) (d : Delays) (stream : Stream) (vl : Vl) → d ≡ delaysIn net → stream ≡ streamAt net s → vl ≡ vlAt net (stream .vl)
     → p ≡ packets (stream .size) (vl .lmax)
     → _≡_ {A = Flow}
     (record {
       period = stream .period;
       jitter = stream .jitter + (d .«send_greatest» - d .«send_least»);
-      cost = p * vl .«sub_links» * vl .gap;
+      cost = p * vl .sublinks * vl .gap;
     })
     (queueFlow net s)
 unfolding queueFlow
 queue-flow-is net s p d stream vl delays is on e =
-    rw (e, is .period, is .jitter, is .size, delays .send-greatest, delays .send-least, on .sub-links, on .gap, on .lmax, is .vl)
+    rw (e, on, is, delays)
 
 -- ---- the streams of a sub-link: the test that picks them
 abbrev pub onSubLink : Network → ℕ → ℕ → ℕ → Bool
 onSubLink net v k s = eqb (streamAt net s .vl) v && eqb (streamAt net s .sublink) k
 
-module _ (net : Network) (v k s : ℕ) (stream : Stream) (is : IsStream net s stream) where
-  pub on-sub-link : stream .vl ≡ v → stream .«sub_link» ≡ k → onSubLink net v k s ≡ true
-  on-sub-link e f = rw (eq-eqb _ _ (sym (is .vl) ∙ e), eq-eqb _ _ (sym (is .sub-link) ∙ f))
+module _ (net : Network) (v k s : ℕ) (stream : Stream) (is : stream ≡ streamAt net s) where
+  pub on-sub-link : stream .vl ≡ v → stream .sublink ≡ k → onSubLink net v k s ≡ true
+  on-sub-link e f = rw (← is, eq-eqb _ _ e, eq-eqb _ _ f)
 
-  pub on-other-sub-link : (stream .«sub_link» ≡ k → ⊥) → onSubLink net v k s ≡ false
-  on-other-sub-link f = rw (ne-eqb _ _ (λ (e : streamAt net s .sublink ≡ k). f (is .sub-link ∙ e))) (and-false (eqb (streamAt net s .vl) v))
+  pub on-other-sub-link : (stream .sublink ≡ k → ⊥) → onSubLink net v k s ≡ false
+  on-other-sub-link f = rw (← is, ne-eqb _ _ f) (and-false (eqb (stream .vl) v))
 
   pub on-other-vl : (stream .vl ≡ v → ⊥) → onSubLink net v k s ≡ false
-  on-other-vl f = rw (ne-eqb _ _ (λ (e : streamAt net s .vl ≡ v). f (is .vl ∙ e)))
+  on-other-vl f = rw (← is, ne-eqb _ _ f)
 
 module _ (net : Network) (v k : ℕ) where
   -- all streams are passed

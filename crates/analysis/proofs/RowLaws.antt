@@ -15,7 +15,6 @@ use lib.Dec.{eqb}
 use lib.ListN.{length, getD, set, replicate, length-append, length-map, getD-replicate}
 use lib.Seq.{getD-set-same, getD-set-other}
 use Rattle.base.specs.Least.{leastFrom}
-use Rattle.base.specs.Pick.{pick}
 use Rattle.base.specs.Tabulate.{passing, total}
 use Rattle.base.specs.Tests.{isSome}
 use Rattle.base.proofs.LeastLaws.{least-is, least-none, least-was, none-was, least-exists}
@@ -49,13 +48,6 @@ least-more-miss p n here = go (leastFrom p 0 n) refl
         (λ (l : suc i < n + 1). none-was p 0 n i e a (omega arith))
         (eq-or-lt-of-le (omega arith)))
     go (some j) e = let r = least-was p 0 n j e in least-is p 0 (n + 1) j (r .low) (omega (arith, r .high)) (r .passes) (r .fails)
-
--- ---- a parent as it is read
-pub no-parent : (o : Option ℕ) (root : Bool) (g : ℕ) → o ≡ pick root none (some g) → root ≡ true → o ≡ none
-no-parent o root g e t = e ∙ ap (λ (b : Bool). pick b none (some g)) t
-
-pub a-parent : (o : Option ℕ) (root : Bool) (g : ℕ) → o ≡ pick root none (some g) → root ≡ false → o ≡ some g
-a-parent o root g e t = e ∙ ap (λ (b : Bool). pick b none (some g)) t
 
 module _ (net : Network) where
   -- ---- the leaves, where the first n hops are looked at
@@ -167,11 +159,11 @@ module _ (net : Network) where
   least-read g p line d e f k = ap₂ _+_ f (k ∙ ap (λ (q : ℕ). portAt net q .least) e)
 
   -- ---- the figures of a row as they are read
-  pub queue-read : (queues : List ℕ) (s v k : ℕ) → Queues net queues (length (net .vls)) → v < length (net .vls) → k < vlAt net (streamAt net s .vl) .sublinks
+  pub queue-read : (queues : List ℕ) (s v k : ℕ) → Queues net queues (length (net .vls)) → v < length (net .vls) → k < vlAt net v .sublinks
       → v ≡ streamAt net s .vl → k ≡ streamAt net s .sublink → getD queues (v * 4 + k) 0 ≡ queueOf net s
   unfolding queueOf
   queue-read queues s v k known l there e f =
-      known .queues-of v l .queue-is k (rw e there) ∙ ap₂ (queueFigure net) e f
+      known .queues-of v l .queue-is k there ∙ ap₂ (queueFigure net) e f
 
   pub wait-read : (waits : List ℕ) (v u : ℕ) → Waits net waits → v < length (net .vls) → v ≡ u → getD waits v 0 ≡ muxWait net u
   wait-read waits v u known l e = known .wait-is v l ∙ ap (muxWait net) e

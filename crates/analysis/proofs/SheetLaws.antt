@@ -1,21 +1,32 @@
--- The records of a sheet as its numbers: how many rows there are of each kind, and each record that is read at its place, with the bounds that a good sheet gives.
+-- The records of a sheet as its numbers: how many rows there are of each kind, and each record as it is read at its place; and the ranges and references that the records of a good sheet keep to.
 -- Assumes nothing.
-use Prim.Native.Nat.{ℕ, suc, _+_, _-_, _*_, _≤_, _<_}
-use mathlib.Core.Bool.{true, false}
+use Prim.Native.Nat.{ℕ, _+_, _*_, _≤_, _<_}
+use mathlib.Core.Bool.{Bool}
 use mathlib.Core.List.{List}
-use mathlib.Core.Path.{_≡_, sym, ap, _∙_}
+use mathlib.Core.Option.{some}
+use mathlib.Core.Path.{_≡_, sym, ap, ap₂, subst, _∙_}
 use native.Mathlib.Nat.{mul-le-mul-right}
 use native.Mathlib.Omega.{arith}
+use lib.Dec.{eqb}
 use lib.ListN.{length, getD, drop, length-drop}
 use lib.Seq.{getD-take, getD-drop, length-take-le}
 use Rattle.frame.specs.Tick.{perMs}
 use Rattle.frame.proofs.TickLaws.{per-ms-is}
-use Rattle.network.specs.Network.{systemAt, streamAt, portAt, hopAt, parentAt}
+use Rattle.network.specs.declared.EndSystem.{EndSystem}
+use Rattle.network.specs.declared.Vl.{Vl}
+use Rattle.network.specs.declared.Stream.{Stream}
+use Rattle.network.specs.declared.Port.{Port}
+use Rattle.network.specs.declared.Hop.{Hop}
+use Rattle.network.specs.declared.Parent.{Parent}
+use Rattle.network.specs.declared.Parent.the-variants.{After}
+use Rattle.network.specs.Network.{Network, parentIn, systemAt, vlAt, streamAt, portAt, hopAt, parentAt}
+use Rattle.network.specs.Ranges.{VlRange, StreamRange}
 use Rattle.table.specs.Write.{recordsIn}
-use Rattle.table.specs.Decoded.{numberAt, ticksAt, parentOf}
-use Rattle.table.proofs.DecodedLaws.{send-least, send-greatest, receive-least, receive-greatest, systems-are, vls-are, streams-are, ports-are, hops-are, systems-records, vls-records, streams-records, ports-records, hops-records, system-number, vl-number, stream-number, port-number, hop-number, first-number, system-per-byte, vl-system, vl-gap, vl-sub-links, vl-lmax, stream-vl, stream-sub-link, stream-size, stream-least-size, stream-period, stream-jitter, port-per-byte, port-delay-least, port-delay-greatest, hop-vl, hop-port, hop-parent, parent-none, parent-some}
+use Rattle.table.specs.Decoded.{numberAt, ticksAt, parentOf, systemIn, vlIn, streamIn, portIn, hopIn}
+use Rattle.table.proofs.DecodedLaws.{send-least, send-greatest, receive-least, receive-greatest, systems-are, vls-are, streams-are, ports-are, hops-are, systems-records, vls-records, streams-records, ports-records, hops-records, system-number, vl-number, stream-number, port-number, hop-number, first-number, system-there, vl-there, stream-there, port-there, hop-there}
+use Rattle.analysis.specs.declared.sheet.Delays.{Delays}
 use Rattle.analysis.specs.Sheet.{part, listsOn, networkOn, Good}
-use Rattle.analysis.specs.Reading.{IsDelays, IsVl, IsStream, IsPort, IsHop}
+use Rattle.analysis.specs.Reading.{delaysIn}
 use Rattle.analysis.proofs.BoundLaws.{per-byte-bounds}
 
 -- ---- a part of a list
@@ -77,201 +88,191 @@ module _ {sheet : List ℕ} (good : Good sheet) where
   delay-on k h = let e : 0 + k ≡ k = omega arith in part-at sheet 0 4 k h ∙ ap (λ (x : ℕ). getD sheet x 0) e
 
   pub delays-read :
-      IsDelays (networkOn sheet)
       record {
         «send_least» = getD sheet 0 0;
         «send_greatest» = getD sheet 1 0;
         «receive_least» = getD sheet 2 0;
         «receive_greatest» = getD sheet 3 0;
       }
+      ≡ delaysIn (networkOn sheet)
   unfolding networkOn
   delays-read =
       let ls = listsOn sheet in
-      let ranges = good .ranges in
-      let s0 = send-least ls ∙ delay-on 0 (omega arith) in
-      let s1 = send-greatest ls ∙ delay-on 1 (omega arith) in
-      let r0 = receive-least ls ∙ delay-on 2 (omega arith) in
-      let r1 = receive-greatest ls ∙ delay-on 3 (omega arith) in
-      record {
-        send-least = sym s0;
-        send-greatest = sym s1;
-        receive-least = sym r0;
-        receive-greatest = sym r1;
-        send-ordered = omega (arith, ranges .send-least);
-        send-bound = omega (arith, ranges .send-greatest);
-        receive-ordered = omega (arith, ranges .receive-least);
-        receive-bound = omega (arith, ranges .receive-greatest);
-      }
+      let s0 = sym (send-least ls ∙ delay-on 0 (omega arith)) in
+      let s1 = sym (send-greatest ls ∙ delay-on 1 (omega arith)) in
+      let r0 = sym (receive-least ls ∙ delay-on 2 (omega arith)) in
+      let r1 = sym (receive-greatest ls ∙ delay-on 3 (omega arith)) in
+      λ i. record { «send_least» = s0 i; «send_greatest» = s1 i; «receive_least» = r0 i; «receive_greatest» = r1 i }
 
   -- ---- an end system
   pub system-read : (e x : ℕ) → e < length (networkOn sheet .systems) → x ≡ ticksAt (getD sheet (9 + e) 0)
-      → (x ≡ systemAt (networkOn sheet) e .perbyte) × (1 ≤ x) × (x ≤ 10)
-  unfolding networkOn listsOn
+      → _≡_ {A = EndSystem} (record { perbyte = x }) (systemAt (networkOn sheet) e)
+  unfolding networkOn listsOn systemIn
   system-read e x h is =
       let ls = listsOn sheet in
       let place : 9 + (e * 1 + 0) ≡ 9 + e = omega arith in
       let number =
       system-number ls e 0 ∙ part-at sheet 9 (getD sheet 4 0) (e * 1 + 0) (omega (arith, systems-on)) ∙ ap (λ (i : ℕ). getD sheet i 0) place in
-      let same = is ∙ sym (system-per-byte ls e (omega (arith, systems-are ls)) ∙ ap ticksAt number) in
-      let bounds = per-byte-bounds (systemAt (networkOn sheet) e .perbyte) (good .ranges .system e h) in
-      (same, omega (arith, same, bounds .0), omega (arith, same, bounds .1))
+      let same = is ∙ sym (ap ticksAt number) in
+      (λ i. record { perbyte = same i }) ∙ sym (system-there ls e (omega (arith, systems-are ls)))
 
   -- ---- a VL
   pub vl-read : (v : ℕ) → v < length (networkOn sheet .vls)
-      → IsVl (networkOn sheet) v
-      record {
+      → _≡_ {A = Vl}
+      (record {
         system = getD sheet (73 + v * 4) 0;
         gap = 12500 * getD sheet (73 + v * 4 + 1) 0;
-        «sub_links» = getD sheet (73 + v * 4 + 2) 0;
+        sublinks = getD sheet (73 + v * 4 + 2) 0;
         lmax = getD sheet (73 + v * 4 + 3) 0;
-      }
-  unfolding networkOn listsOn
+      })
+      (vlAt (networkOn sheet) v)
+  unfolding networkOn listsOn vlIn
   vl-read v h =
       let ls = listsOn sheet in
       let there : v < recordsIn ls 2 = omega (arith, vls-are ls) in
-      let number : (k : ℕ) → k < 4 → numberAt ls 2 v k ≡ getD sheet (73 + v * 4 + k) 0
-      = λ k l. vl-number ls v k ∙ record-part sheet 73 (getD sheet 5 0) 4 v k (omega (arith, vls-on)) l in
-      let system = vl-system ls v there ∙ number 0 (omega arith) ∙ first-number sheet (73 + v * 4) in
-      let gap = vl-gap ls v there ∙ ap (λ (ms : ℕ). perMs * ms) (number 1 (omega arith)) ∙ ap (λ (m : ℕ). m * getD sheet (73 + v * 4 + 1) 0) per-ms-is in
-      let links = vl-sub-links ls v there ∙ number 2 (omega arith) in
-      let lmax = vl-lmax ls v there ∙ number 3 (omega arith) in
-      let range = good .ranges .vl v h in
-      record {
-        system = sym system;
-        gap = sym gap;
-        sub-links = sym links;
-        lmax = sym lmax;
-        system-there = rw system at (good .references .vl-system v h);
-        gap-least = rw gap at (range .gap-least);
-        gap-greatest = rw gap at (range .gap-greatest);
-        sub-links-least = rw links at (range .sub-links-least);
-        sub-links-greatest = rw links at (range .sub-links-greatest);
-        lmax-least = rw lmax at (range .lmax-least);
-        lmax-greatest = rw lmax at (range .lmax-greatest);
-      }
+      let number : (k : ℕ) → k < 4 → getD sheet (73 + v * 4 + k) 0 ≡ numberAt ls 2 v k
+      = λ k l. sym (vl-number ls v k ∙ record-part sheet 73 (getD sheet 5 0) 4 v k (omega (arith, vls-on)) l) in
+      let system = sym (first-number sheet (73 + v * 4)) ∙ number 0 (omega arith) in
+      let gap = ap₂ _*_ (sym per-ms-is) (number 1 (omega arith)) in
+      let links = number 2 (omega arith) in
+      let lmax = number 3 (omega arith) in
+      (λ i. record { system = system i; gap = gap i; sublinks = links i; lmax = lmax i }) ∙ sym (vl-there ls v there)
 
   -- ---- a stream
-  pub stream-read : (s : ℕ) → s < length (networkOn sheet .streams)
-      → IsStream (networkOn sheet) s
-      record {
+  pub stream-read : (s : ℕ) → s < length (networkOn sheet .streams) → (x : Bool) → x ≡ eqb (getD sheet (1097 + s * 7 + 2) 0) 1
+      → _≡_ {A = Stream}
+      (record {
         vl = getD sheet (1097 + s * 7) 0;
-        «sub_link» = getD sheet (1097 + s * 7 + 1) 0;
+        sublink = getD sheet (1097 + s * 7 + 1) 0;
+        sampling = x;
         size = getD sheet (1097 + s * 7 + 3) 0;
-        «least_size» = getD sheet (1097 + s * 7 + 4) 0;
+        least = getD sheet (1097 + s * 7 + 4) 0;
         period = getD sheet (1097 + s * 7 + 5) 0;
         jitter = getD sheet (1097 + s * 7 + 6) 0;
-      }
-  unfolding networkOn listsOn
-  stream-read s h =
+      })
+      (streamAt (networkOn sheet) s)
+  unfolding networkOn listsOn streamIn
+  stream-read s h x is =
       let ls = listsOn sheet in
       let there : s < recordsIn ls 3 = omega (arith, streams-are ls) in
-      let number : (k : ℕ) → k < 7 → numberAt ls 3 s k ≡ getD sheet (1097 + s * 7 + k) 0
-      = λ k l. stream-number ls s k ∙ record-part sheet 1097 (getD sheet 6 0) 7 s k (omega (arith, streams-on)) l in
-      let vl = stream-vl ls s there ∙ number 0 (omega arith) ∙ first-number sheet (1097 + s * 7) in
-      let sub-link = stream-sub-link ls s there ∙ number 1 (omega arith) in
-      let size = stream-size ls s there ∙ number 3 (omega arith) in
-      let least = stream-least-size ls s there ∙ number 4 (omega arith) in
-      let period = stream-period ls s there ∙ number 5 (omega arith) in
-      let jitter = stream-jitter ls s there ∙ number 6 (omega arith) in
-      let range = good .ranges .stream s h in
-      let refs = good .references in
-      let below = rw sub-link at (refs .stream-sub-link s h) in
-      record {
-        vl = sym vl;
-        sub-link = sym sub-link;
-        size = sym size;
-        least-size = sym least;
-        period = sym period;
-        jitter = sym jitter;
-        vl-there = rw vl at (refs .stream-vl s h);
-        sub-link-there = below;
-        sub-link-greatest = omega (arith, below, good .ranges .vl (streamAt (networkOn sheet) s .vl) (refs .stream-vl s h) .sub-links-greatest);
-        least-size-least = rw least at (range .least-size-least);
-        sizes-ordered = rw (least, size) at (range .least-size-greatest);
-        size-greatest = rw size at (range .size-greatest);
-        jitter-greatest = rw jitter at (range .jitter-greatest);
-      }
+      let number : (k : ℕ) → k < 7 → getD sheet (1097 + s * 7 + k) 0 ≡ numberAt ls 3 s k
+      = λ k l. sym (stream-number ls s k ∙ record-part sheet 1097 (getD sheet 6 0) 7 s k (omega (arith, streams-on)) l) in
+      let vl = sym (first-number sheet (1097 + s * 7)) ∙ number 0 (omega arith) in
+      let link = number 1 (omega arith) in
+      let sampling = is ∙ ap (λ (n : ℕ). eqb n 1) (number 2 (omega arith)) in
+      let size = number 3 (omega arith) in
+      let least = number 4 (omega arith) in
+      let period = number 5 (omega arith) in
+      let jitter = number 6 (omega arith) in
+      (λ i. record {
+        vl = vl i;
+        sublink = link i;
+        sampling = sampling i;
+        size = size i;
+        least = least i;
+        period = period i;
+        jitter = jitter i;
+      })
+      ∙ sym (stream-there ls s there)
 
   -- ---- a port
   pub port-read : (p x : ℕ) → p < length (networkOn sheet .ports) → x ≡ ticksAt (getD sheet (4681 + p * 3) 0)
-      → IsPort (networkOn sheet) p
-      record {
-        «per_byte» = x;
-        «delay_least» = getD sheet (4681 + p * 3 + 1) 0;
-        «delay_greatest» = getD sheet (4681 + p * 3 + 2) 0;
-      }
-  unfolding networkOn listsOn
+      → _≡_ {A = Port}
+      (record { perbyte = x; least = getD sheet (4681 + p * 3 + 1) 0; greatest = getD sheet (4681 + p * 3 + 2) 0 })
+      (portAt (networkOn sheet) p)
+  unfolding networkOn listsOn portIn
   port-read p x h is =
       let ls = listsOn sheet in
       let there : p < recordsIn ls 4 = omega (arith, ports-are ls) in
-      let number : (k : ℕ) → k < 3 → numberAt ls 4 p k ≡ getD sheet (4681 + p * 3 + k) 0
-      = λ k l. port-number ls p k ∙ record-part sheet 4681 (getD sheet 7 0) 3 p k (omega (arith, ports-on)) l in
-      let speed = is ∙ sym (port-per-byte ls p there ∙ ap ticksAt (number 0 (omega arith) ∙ first-number sheet (4681 + p * 3))) in
-      let least = port-delay-least ls p there ∙ number 1 (omega arith) in
-      let greatest = port-delay-greatest ls p there ∙ number 2 (omega arith) in
-      let range = good .ranges .port p h in
-      let bounds = per-byte-bounds (portAt (networkOn sheet) p .perbyte) (range .per-byte) in
-      record {
-        per-byte = speed;
-        delay-least = sym least;
-        delay-greatest = sym greatest;
-        per-byte-least = omega (arith, speed, bounds .0);
-        per-byte-greatest = omega (arith, speed, bounds .1);
-        delays-ordered = rw (least, greatest) at (range .delay-least);
-        delay-bound = rw greatest at (range .delay-greatest);
-      }
+      let number : (k : ℕ) → k < 3 → getD sheet (4681 + p * 3 + k) 0 ≡ numberAt ls 4 p k
+      = λ k l. sym (port-number ls p k ∙ record-part sheet 4681 (getD sheet 7 0) 3 p k (omega (arith, ports-on)) l) in
+      let speed = is ∙ ap ticksAt (sym (first-number sheet (4681 + p * 3)) ∙ number 0 (omega arith)) in
+      let least = number 1 (omega arith) in
+      let greatest = number 2 (omega arith) in
+      (λ i. record { perbyte = speed i; least = least i; greatest = greatest i }) ∙ sym (port-there ls p there)
 
   -- ---- a hop
-  module _ (h : ℕ) (row : h < length (networkOn sheet .hops)) where
-    hop-number-on : (k : ℕ) → k < 3 → numberAt (listsOn sheet) 5 h k ≡ getD sheet (5065 + h * 3 + k) 0
-    unfolding listsOn
-    hop-number-on k l = hop-number (listsOn sheet) h k ∙ record-part sheet 5065 (getD sheet 8 0) 3 h k (omega (arith, hops-on)) l
+  pub hop-read : (h : ℕ) → h < length (networkOn sheet .hops) → (x : Parent) → x ≡ parentOf (getD sheet (5065 + h * 3 + 2) 0)
+      → _≡_ {A = Hop}
+      (record { vl = getD sheet (5065 + h * 3) 0; port = getD sheet (5065 + h * 3 + 1) 0; parent = x })
+      (hopAt (networkOn sheet) h)
+  unfolding networkOn listsOn hopIn
+  hop-read h row x is =
+      let ls = listsOn sheet in
+      let there : h < recordsIn ls 5 = omega (arith, hops-are ls) in
+      let number : (k : ℕ) → k < 3 → getD sheet (5065 + h * 3 + k) 0 ≡ numberAt ls 5 h k
+      = λ k l. sym (hop-number ls h k ∙ record-part sheet 5065 (getD sheet 8 0) 3 h k (omega (arith, hops-on)) l) in
+      let vl = sym (first-number sheet (5065 + h * 3)) ∙ number 0 (omega arith) in
+      let port = number 1 (omega arith) in
+      let parent = is ∙ ap parentOf (number 2 (omega arith)) in
+      (λ i. record { vl = vl i; port = port i; parent = parent i }) ∙ sym (hop-there ls h there)
 
-    hop-there : h < recordsIn (listsOn sheet) 5
-    unfolding networkOn
-    hop-there = omega (arith, hops-are (listsOn sheet))
+-- ---- the ranges of a record that was read, and the rows that it names
+pub record DelayBounds (d : Delays) : Type 0 where
+  pub send-ordered : d .«send_least» ≤ d .«send_greatest»
+  pub send-bound : d .«send_greatest» ≤ 1875
+  pub receive-ordered : d .«receive_least» ≤ d .«receive_greatest»
+  pub receive-bound : d .«receive_greatest» ≤ 1875
 
-    hop-vl-on : hopAt (networkOn sheet) h .vl ≡ getD sheet (5065 + h * 3) 0
-    unfolding networkOn
-    hop-vl-on = hop-vl (listsOn sheet) h hop-there ∙ hop-number-on 0 (omega arith) ∙ first-number sheet (5065 + h * 3)
+-- a port's ranges as arithmetic reads them
+pub record PortBounds (port : Port) : Type 0 where
+  pub per-byte-least : 1 ≤ port .perbyte
+  pub per-byte-greatest : port .perbyte ≤ 10
+  pub ordered : port .least ≤ port .greatest
+  pub delay-greatest : port .greatest ≤ 1250
 
-    hop-port-on : hopAt (networkOn sheet) h .port ≡ getD sheet (5065 + h * 3 + 1) 0
-    unfolding networkOn
-    hop-port-on = hop-port (listsOn sheet) h hop-there ∙ hop-number-on 1 (omega arith)
+module _ {sheet : List ℕ} (good : Good sheet) where
+  pub delays-range : {d : Delays} → d ≡ delaysIn (networkOn sheet) → DelayBounds d
+  delays-range is =
+      let ranges = good .ranges in
+      rw is record {
+        send-ordered = ranges .send-least;
+        send-bound = ranges .send-greatest;
+        receive-ordered = ranges .receive-least;
+        receive-bound = ranges .receive-greatest;
+      }
 
-    hop-parent-on : parentAt (networkOn sheet) h ≡ parentOf (getD sheet (5065 + h * 3 + 2) 0)
-    unfolding networkOn
-    hop-parent-on = hop-parent (listsOn sheet) h hop-there ∙ ap parentOf (hop-number-on 2 (omega arith))
+  pub system-range : {e : ℕ} {r : EndSystem} → r ≡ systemAt (networkOn sheet) e → e < length (networkOn sheet .systems)
+      → (1 ≤ r .perbyte) × (r .perbyte ≤ 10)
+  system-range {e} {r} is h = rw is (per-byte-bounds (systemAt (networkOn sheet) e .perbyte) (good .ranges .system e h))
 
-    pub root-read : getD sheet (5065 + h * 3 + 2) 0 ≡ 0
-        → IsHop (networkOn sheet) h
-        record { vl = getD sheet (5065 + h * 3) 0; port = getD sheet (5065 + h * 3 + 1) 0; root = true; parent = 0 }
-    root-read stored = record {
-      vl = sym hop-vl-on;
-      port = sym hop-port-on;
-      parent = hop-parent-on ∙ ap parentOf stored ∙ parent-none;
-      vl-there = rw hop-vl-on at (good .references .hop-vl h row);
-      port-there = rw hop-port-on at (good .references .hop-port h row);
-      parent-there = omega arith;
-    }
+  pub vl-range : {v : ℕ} {r : Vl} → r ≡ vlAt (networkOn sheet) v → v < length (networkOn sheet .vls) → VlRange r
+  vl-range {v} is h = rw is (good .ranges .vl v h)
 
-    pub child-read : 0 < getD sheet (5065 + h * 3 + 2) 0
-        → IsHop (networkOn sheet) h
-        record {
-          vl = getD sheet (5065 + h * 3) 0;
-          port = getD sheet (5065 + h * 3 + 1) 0;
-          root = false;
-          parent = getD sheet (5065 + h * 3 + 2) 0 - 1;
-        }
-    child-read some-stored =
-        let stored = getD sheet (5065 + h * 3 + 2) 0 in
-        let more : stored ≡ suc (stored - 1) = omega arith in
-        let parent = hop-parent-on ∙ ap parentOf more ∙ parent-some (stored - 1) in
-        record {
-          vl = sym hop-vl-on;
-          port = sym hop-port-on;
-          parent = parent;
-          vl-there = rw hop-vl-on at (good .references .hop-vl h row);
-          port-there = rw hop-port-on at (good .references .hop-port h row);
-          parent-there = omega (arith, good .references .parent-earlier h (stored - 1) row parent);
-        }
+  pub vl-system : {v : ℕ} {r : Vl} → r ≡ vlAt (networkOn sheet) v → v < length (networkOn sheet .vls) → r .system < length (networkOn sheet .systems)
+  vl-system {v} is h = rw is (good .references .vl-system v h)
+
+  pub stream-range : {s : ℕ} {r : Stream} → r ≡ streamAt (networkOn sheet) s → s < length (networkOn sheet .streams) → StreamRange r
+  stream-range {s} is h = rw is (good .ranges .stream s h)
+
+  pub stream-vl : {s : ℕ} {r : Stream} → r ≡ streamAt (networkOn sheet) s → s < length (networkOn sheet .streams) → r .vl < length (networkOn sheet .vls)
+  stream-vl {s} is h = rw is (good .references .stream-vl s h)
+
+  pub stream-sub-link : {s : ℕ} {r : Stream} → r ≡ streamAt (networkOn sheet) s → s < length (networkOn sheet .streams)
+      → (r .sublink < vlAt (networkOn sheet) (r .vl) .sublinks) × (r .sublink < 4)
+  stream-sub-link {s} is h =
+      let refs = good .references in
+      rw is
+      (refs .stream-sub-link s h, omega (arith, refs .stream-sub-link s h, good .ranges .vl (streamAt (networkOn sheet) s .vl) (refs .stream-vl s h) .sub-links-greatest))
+
+  pub port-range : {p : ℕ} {r : Port} → r ≡ portAt (networkOn sheet) p → p < length (networkOn sheet .ports) → PortBounds r
+  port-range {p} is h =
+      let range = good .ranges .port p h in
+      let bounds = per-byte-bounds (portAt (networkOn sheet) p .perbyte) (range .per-byte) in
+      rw is record {
+        per-byte-least = bounds .0;
+        per-byte-greatest = bounds .1;
+        ordered = range .delay-least;
+        delay-greatest = range .delay-greatest;
+      }
+
+  pub hop-names : {h : ℕ} {r : Hop} → r ≡ hopAt (networkOn sheet) h → h < length (networkOn sheet .hops)
+      → (r .vl < length (networkOn sheet .vls)) × (r .port < length (networkOn sheet .ports))
+  hop-names {h} is row = rw is (good .references .hop-vl h row, good .references .hop-port h row)
+
+  pub parent-there : {h g : ℕ} → parentAt (networkOn sheet) h ≡ some g → h < length (networkOn sheet .hops) → g < length (networkOn sheet .hops)
+  parent-there {h} {g} e row = omega (arith, good .references .parent-earlier h g row e)
+
+-- the parent of a hop that was read
+pub parent-read : (net : Network) (h : ℕ) {r : Hop} {x : Parent} → r ≡ hopAt net h → r .parent ≡ x → parentAt net h ≡ parentIn x
+parent-read net h is e = ap (λ (r : Hop). parentIn (r .parent)) (sym is) ∙ ap parentIn e

@@ -40,7 +40,8 @@ pub fn send_most(net: &[u64; SHEET], v: usize) -> u64
     ensures { λ r. ⌜ (r ≡ sendMost (networkOn (now (net .entry))) v) × (r ≤ 15380) ⌝ }
 {
     let vl = sheet::vl_at(net, v);
-    line(vl.lmax) * sheet::system_byte(net, vl.system)
+    let system = sheet::system_at(net, vl.system);
+    line(vl.lmax) * system.perbyte
 }
 
 // The least.
@@ -49,7 +50,8 @@ pub fn send_least(net: &[u64; SHEET], v: usize) -> u64
     ensures { λ r. ⌜ (r ≡ sendLine (networkOn (now (net .entry))) v) × (r ≤ 840) ⌝ }
 {
     let vl = sheet::vl_at(net, v);
-    Frame::LEAST_LINE * sheet::system_byte(net, vl.system)
+    let system = sheet::system_at(net, vl.system);
+    Frame::LEAST_LINE * system.perbyte
 }
 
 // What is between them.
@@ -58,7 +60,8 @@ pub fn send_spread(net: &[u64; SHEET], v: usize) -> u64
     ensures { λ r. ⌜ (r ≡ sendSpread (networkOn (now (net .entry))) v) × (r ≤ 15380) ⌝ }
 {
     let vl = sheet::vl_at(net, v);
-    (line(vl.lmax) - Frame::LEAST_LINE) * sheet::system_byte(net, vl.system)
+    let system = sheet::system_at(net, vl.system);
+    (line(vl.lmax) - Frame::LEAST_LINE) * system.perbyte
 }
 
 // The frames of the VLs of end system e, VL `but` left out.

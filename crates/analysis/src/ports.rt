@@ -7,6 +7,7 @@ use crate::links::less;
 use crate::sheet;
 use crate::sheet::SHEET;
 use frame::Frame;
+use network::Parent;
 use station::Flow;
 ghost use mathlib.Core.Path.{_≡_};
 ghost use Prim.Native.Nat.{_<_, _≤_, _+_, suc};
@@ -27,7 +28,7 @@ fn hop_most(net: &[u64; SHEET], h: usize) -> u64
     let hop = sheet::hop_at(net, h);
     let vl = sheet::vl_at(net, hop.vl);
     let port = sheet::port_at(net, hop.port);
-    links::line(vl.lmax) * port.per_byte
+    links::line(vl.lmax) * port.perbyte
 }
 
 // The least.
@@ -37,7 +38,7 @@ pub fn hop_least(net: &[u64; SHEET], h: usize) -> u64
 {
     let hop = sheet::hop_at(net, h);
     let port = sheet::port_at(net, hop.port);
-    Frame::LEAST_LINE * port.per_byte
+    Frame::LEAST_LINE * port.perbyte
 }
 
 // What is between the greatest and the least switch delay before hop h's port.
@@ -47,7 +48,7 @@ fn hop_spread(net: &[u64; SHEET], h: usize) -> u64
 {
     let hop = sheet::hop_at(net, h);
     let port = sheet::port_at(net, hop.port);
-    port.delay_greatest - port.delay_least
+    port.greatest - port.least
 }
 
 // The jitter of hop h, where those of the hops on lower ports and the figures of lower ports are known.
@@ -63,14 +64,13 @@ fn hop_jitter(
 {
     let hop = sheet::hop_at(net, h);
     let spread = hop_spread(net, h);
-    let root = hop.root;
-    if root {
+    let parent = hop.parent;
+    let Parent::After(g) = parent else {
         let v = hop.vl;
         return waits[v] + links::send_spread(net, v) + spread;
-    }
-    let g = hop.parent;
-    let parent = sheet::hop_at(net, g);
-    let port = parent.port;
+    };
+    let above = sheet::hop_at(net, g);
+    let port = above.port;
     jitters[g] + less(figures[port], hop_least(net, g)) + spread
 }
 

@@ -43,7 +43,7 @@ fn queue_flow(net: &[u64; SHEET], s: usize) -> Flow
     Flow {
         period: stream.period,
         jitter: stream.jitter + (d.send_greatest - d.send_least),
-        cost: packets(stream.size, vl.lmax) * vl.sub_links as u64 * vl.gap,
+        cost: packets(stream.size, vl.lmax) * vl.sublinks as u64 * vl.gap,
     }
 }
 
@@ -58,7 +58,7 @@ fn queue_flows(net: &[u64; SHEET], v: usize, k: usize, flows: &mut [u64; FLOWS])
     while s < n {
         let stream = sheet::stream_at(net, s);
         if stream.vl == v {
-            if stream.sub_link == k {
+            if stream.sublink == k {
                 flows::put_flow(flows, count, queue_flow(net, s));
                 count += 1;
             }
@@ -93,7 +93,7 @@ fn vl_queues(
     ensures { λ r. ⌜ (r ≡ isSome (endlessSubLink (networkOn (now (net .entry))) v)) × (r ≡ false → QueuesOf (networkOn (now (net .entry))) (now (queues .exit)) v (vlAt (networkOn (now (net .entry))) v .sublinks)) × ((i : ℕ) → i < v * 4 → getD (now (queues .exit)) i 0 ≡ getD (now (queues .entry)) i 0) × (length (now (queues .exit)) ≡ 1024) × (length (now (flows .exit)) ≡ 3072) ⌝ }
 {
     let vl = sheet::vl_at(net, v);
-    let n = vl.sub_links;
+    let n = vl.sublinks;
     let mut k = 0;
     while k < n {
         let o = queue(net, v, k, flows);

@@ -5,6 +5,7 @@ use crate::ports;
 use crate::queues;
 use crate::sheet;
 use crate::sheet::SHEET;
+use network::Parent;
 ghost use mathlib.Core.Path.{_≡_};
 ghost use Prim.Native.Nat.{_<_, _≤_, _+_, _*_};
 ghost use lib.ListN.{length, replicate};
@@ -29,9 +30,8 @@ pub fn leaves(net: &[u64; SHEET]) -> [bool; 1_024]
     let mut h = 0;
     while h < n {
         let hop = sheet::hop_at(net, h);
-        let root = hop.root;
-        if !root {
-            let g = hop.parent;
+        let parent = hop.parent;
+        if let Parent::After(g) = parent {
             leaves[g] = false;
         }
         h += 1;
@@ -89,12 +89,12 @@ fn route_most(net: &[u64; SHEET], figures: &[u64; 128], h: usize) -> u64
         let hop = sheet::hop_at(net, g);
         let p = hop.port;
         let port = sheet::port_at(net, p);
-        sum += port.delay_greatest + figures[p];
-        let root = hop.root;
-        if root {
+        sum += port.greatest + figures[p];
+        let parent = hop.parent;
+        let Parent::After(above) = parent else {
             return sum;
-        }
-        g = hop.parent;
+        };
+        g = above;
         left -= 1;
     }
     sum
@@ -111,12 +111,12 @@ fn route_least(net: &[u64; SHEET], h: usize) -> u64
     while 0 < left {
         let hop = sheet::hop_at(net, g);
         let port = sheet::port_at(net, hop.port);
-        sum += ports::hop_least(net, g) + port.delay_least;
-        let root = hop.root;
-        if root {
+        sum += ports::hop_least(net, g) + port.least;
+        let parent = hop.parent;
+        let Parent::After(above) = parent else {
             return sum;
-        }
-        g = hop.parent;
+        };
+        g = above;
         left -= 1;
     }
     sum
@@ -128,7 +128,7 @@ fn queue_of(net: &[u64; SHEET], queues: &[u64; 1_024], s: usize) -> u64
     ensures { λ r. ⌜ (r ≡ queueOf (networkOn (now (net .entry))) s) × (r ≤ 125000000) ⌝ }
 {
     let stream = sheet::stream_at(net, s);
-    let at = stream.vl * 4 + stream.sub_link;
+    let at = stream.vl * 4 + stream.sublink;
     queues[at]
 }
 
@@ -157,7 +157,7 @@ fn best_of(net: &[u64; SHEET], s: usize, h: usize) -> u64
     let d = sheet::delays_of(net);
     let stream = sheet::stream_at(net, s);
     let vl = sheet::vl_at(net, stream.vl);
-    let gaps = (queues::packets(stream.least_size, vl.lmax) - 1) * vl.gap;
+    let gaps = (queues::packets(stream.least, vl.lmax) - 1) * vl.gap;
     d.send_least + gaps + links::send_least(net, stream.vl) + route_least(net, h) + d.receive_least
 }
 

@@ -1,43 +1,22 @@
 -- A network as a value: what a packed table says once it is decoded. Every time is in ticks; rows are numbered from 0; there are no bytes
--- here. Table, rows and the tick machine all speak of this one. Assumes nothing.
+-- here. Its records are those that the code declares (src/). Table, rows and the tick machine all speak of this one. Assumes nothing.
 use Prim.Native.Nat.{ℕ}
-use mathlib.Core.Bool.{Bool, false}
+use mathlib.Core.Bool.{false}
 use mathlib.Core.List.{List}
-use mathlib.Core.Option.{Option, none}
+use mathlib.Core.Option.{Option, none, some}
 use lib.ListN.{getD}
+use Rattle.network.specs.declared.EndSystem.{EndSystem}
+use Rattle.network.specs.declared.Vl.{Vl}
+use Rattle.network.specs.declared.Stream.{Stream}
+use Rattle.network.specs.declared.Port.{Port}
+use Rattle.network.specs.declared.Hop.{Hop}
+use Rattle.network.specs.declared.Parent.{Parent}
+use Rattle.network.specs.declared.Parent.the-variants.{Root, After}
 
--- an end system: the ticks that a byte takes on its link
-pub record EndSystem : Type 0 where
-  pub perByte : ℕ
-
--- a virtual link: its end system, its gap (BAG), its number of sub-links and its largest frame in bytes
-pub record Vl : Type 0 where
-  pub system : ℕ
-  pub gap : ℕ
-  pub sublinks : ℕ
-  pub lmax : ℕ
-
--- a message stream: its VL and sub-link (from 0), whether it is sampling, its greatest and least size in bytes, its period and its jitter
-pub record Stream : Type 0 where
-  pub vl : ℕ
-  pub sublink : ℕ
-  pub sampling : Bool
-  pub size : ℕ
-  pub least : ℕ
-  pub period : ℕ
-  pub jitter : ℕ
-
--- a switch port: the ticks that a byte takes on its link, and the bounds of the switch delay before it
-pub record Port : Type 0 where
-  pub perByte : ℕ
-  pub least : ℕ
-  pub greatest : ℕ
-
--- a hop: one VL at one port, after the hop that is its parent, if it has one
-pub record Hop : Type 0 where
-  pub vl : ℕ
-  pub port : ℕ
-  pub parent : Option ℕ
+-- what comes before a hop is its parent's row, if it has one
+abbrev pub parentIn : Parent → Option ℕ
+parentIn Root = none
+parentIn (After g) = some g
 
 pub record Network : Type 0 where
   pub sendLeast : ℕ
@@ -80,3 +59,7 @@ portAt net i = getD (net .ports) i noPort
 
 abbrev pub hopAt : Network → ℕ → Hop
 hopAt net i = getD (net .hops) i noHop
+
+-- the row of a hop's parent
+abbrev pub parentAt : Network → ℕ → Option ℕ
+parentAt net i = parentIn (hopAt net i .parent)

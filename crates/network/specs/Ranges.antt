@@ -13,7 +13,7 @@ use Rattle.network.specs.Network.{Network, systemAt, vlAt, streamAt, por
 
 -- "A byte takes 1 tick at 100 Mbit/s and 10 ticks at 10 Mbit/s."
 abbrev pub SpeedRange : ℕ → Type 0
-SpeedRange perByte = (perByte ≡ 1) ⊎ (perByte ≡ 10)
+SpeedRange perbyte = (perbyte ≡ 1) ⊎ (perbyte ≡ 10)
 
 -- a gap of the table of gaps, one to four sub-links, "Lmax 64 to 1,518"
 pub record VlRange (vl : Vl) : Type 0 where

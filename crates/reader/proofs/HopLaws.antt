@@ -17,7 +17,7 @@ use Rattle.frame.specs.declared.Reply.{Reply}
 use Rattle.frame.specs.declared.Reply.the-variants.{Value, Refused}
 use Rattle.frame.proofs.PacketLaws.{packets-given}
 use Rattle.frame.proofs.ReplyLaws.{value-was, refused-was}
-use Rattle.network.specs.Network.{Network, vlAt, parentAt}
+use Rattle.network.specs.Network.{parentIn, Network, vlAt, parentAt}
 use Rattle.network.specs.References.{hopNamesVl, namesPort, parentEarlier, parentSameVl, parentLowerPort, noEarlierTwin, routeLonger, notTooDeep, refFault, oneSample}
 use Rattle.network.proofs.ReferenceLaws.{hop-row}
 use Rattle.network.proofs.RouteLaws.{root-not-longer, child-longer}
@@ -108,13 +108,13 @@ module _ (ls : Lists) (h : ℕ) (l : h < length (ls .hops) / 3) where
             }))
 
 -- the route is followed for 8 hops: it ends, it goes on with the parent, or it is too long
-module _ (net : Network) (h n g p : ℕ) (left : 0 < n) (stored : parentAt net g ≡ parentOf p) (so-far : routeLonger net 8 h ≡ routeLonger net n g) where
+module _ (net : Network) (h n g p : ℕ) (left : 0 < n) (stored : parentAt net g ≡ parentIn (parentOf p)) (so-far : routeLonger net 8 h ≡ routeLonger net n g) where
   one-of : routeLonger net n g ≡ routeLonger net (suc (n - 1)) g
   one-of = let e : n ≡ suc (n - 1) = omega arith in ap (λ (m : ℕ). routeLonger net m g) e
 
   pub route-ends : p ≡ 0 → true ≡ notTooDeep net h
   route-ends e =
-      sym (not-too-deep-is net h ∙ ap not (so-far ∙ one-of ∙ root-not-longer net (n - 1) g (stored ∙ ap parentOf e ∙ parent-none)))
+      sym (not-too-deep-is net h ∙ ap not (so-far ∙ one-of ∙ root-not-longer net (n - 1) g (stored ∙ ap (λ (n : ℕ). parentIn (parentOf n)) e ∙ parent-none)))
 
   pub route-goes-on : (p ≡ 0 → ⊥) → routeLonger net 8 h ≡ routeLonger net (n - 1) (p - 1)
   route-goes-on some-parent = so-far ∙ one-of ∙ child-longer net (n - 1) g (p - 1) (stored ∙ parent-row p some-parent)

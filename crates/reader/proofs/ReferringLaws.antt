@@ -9,7 +9,7 @@ use borrow.Author.Tests.{lt-ltb, le-ltb, eq-eqb, ne-eqb}
 use lib.Dec.{ltb, eqb}
 use lib.ListN.{length, getD}
 use Rattle.network.specs.declared.Hop.{Hop}
-use Rattle.network.specs.Network.{Network, vlAt, streamAt, hopAt, parentAt}
+use Rattle.network.specs.Network.{parentIn, Network, vlAt, streamAt, hopAt, parentAt}
 use Rattle.network.specs.References.{namesSystem, hasHop, streamNamesVl, namesSubLink, parentEarlier, parentSameVl, parentLowerPort, twinOf, refFault}
 use Rattle.network.proofs.ReferenceTests.{has-hop}
 use Rattle.network.proofs.ReferenceLaws.{vl-row, stream-row}
@@ -29,7 +29,7 @@ pub row-accepted : (net : Network) (s i : ℕ) → refFault net s i ≡ none →
 unfolding rowAnswer
 row-accepted net s i e = rw (e, rowAnswer)
 
-pub parent-row : (p : ℕ) → (p ≡ 0 → ⊥) → parentOf p ≡ some (p - 1)
+pub parent-row : (p : ℕ) → (p ≡ 0 → ⊥) → parentIn (parentOf p) ≡ some (p - 1)
 parent-row zero h = absurd (h refl)
 parent-row (suc g) h = let e : suc g - 1 ≡ g = omega arith in rw e (parent-some g)
 
@@ -80,11 +80,11 @@ module _ (ls : Lists) (i : ℕ) (h : i < length (ls .hops) / 3) where
   pub port-of-hop : hopAt (networkOf ls) i .port ≡ getD (ls .hops) (i * 3 + 1) 0
   port-of-hop = hop-port ls i (omega (arith, hops-records ls)) ∙ hop-number ls i 1
 
-  pub parent-of-hop : parentAt (networkOf ls) i ≡ parentOf (getD (ls .hops) (i * 3 + 2) 0)
-  parent-of-hop = hop-parent ls i (omega (arith, hops-records ls)) ∙ ap parentOf (hop-number ls i 2)
+  pub parent-of-hop : parentAt (networkOf ls) i ≡ parentIn (parentOf (getD (ls .hops) (i * 3 + 2) 0))
+  parent-of-hop = hop-parent ls i (omega (arith, hops-records ls)) ∙ ap (λ (n : ℕ). parentIn (parentOf n)) (hop-number ls i 2)
 
-pub parent-past : (ls : Lists) (i : ℕ) → length (ls .hops) / 3 ≤ i → parentAt (networkOf ls) i ≡ parentOf 0
-parent-past ls i h = ap (λ (x : Hop). x .parent) (hop-past ls i (omega (arith, hops-records ls))) ∙ sym parent-none
+pub parent-past : (ls : Lists) (i : ℕ) → length (ls .hops) / 3 ≤ i → parentAt (networkOf ls) i ≡ parentIn (parentOf 0)
+parent-past ls i h = ap (λ (x : Hop). parentIn (x .parent)) (hop-past ls i (omega (arith, hops-records ls))) ∙ sym parent-none
 
 -- ---- VLs
 module _ (ls : Lists) (v : ℕ) where
@@ -141,7 +141,7 @@ module _ (ls : Lists) (h : ℕ) (l : h < length (ls .hops) / 3) where
   pub parent-nothing : stored ≡ 0 → 0 ≡ parentFault (networkOf ls) h
   unfolding parentFault
   parent-nothing e =
-      let no = parent-of-hop ls h l ∙ ap parentOf e ∙ parent-none in
+      let no = parent-of-hop ls h l ∙ ap (λ (n : ℕ). parentIn (parentOf n)) e ∙ parent-none in
       rw (no-parent-earlier (networkOf ls) h no, no-parent-same-vl (networkOf ls) h no, no-parent-lower (networkOf ls) h no)
 
   module _ (some-parent : stored ≡ 0 → ⊥) where

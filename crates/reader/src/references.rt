@@ -7,7 +7,7 @@ ghost use mathlib.Core.List.{List, [], _∷_};
 ghost use mathlib.Core.Path.{_≡_};
 ghost use lib.Dec.{ltb};
 ghost use lib.ListN.{length};
-ghost use Rattle.network.specs.Network.{parentAt};
+ghost use Rattle.network.specs.Network.{parentIn, parentAt};
 ghost use Rattle.network.specs.References.{hasHop, twinOf, noEarlierTwin, notTooDeep, oneSample};
 ghost use Rattle.table.specs.Answers.{answer, accepted, firstGiven};
 ghost use Rattle.table.specs.Write.{Lists};
@@ -84,7 +84,7 @@ fn stream_answer(vls: &[u64], streams: &[u64], s: usize) -> Answer
 // ---- hops: each names a VL and a port; its parent is an earlier row of the same VL on a lower-numbered port; no earlier hop is its twin; it is not deeper than 8.
 // The parent's row + 1, or 0; also 0 past the last row.
 fn parent_of(hops: &[u64], g: u64) -> u64
-    ensures { λ r. ⌜ ((ls : Lists) → parentAt (overHops ls (now (hops .entry))) g ≡ parentOf r) ⌝ }
+    ensures { λ r. ⌜ ((ls : Lists) → parentAt (overHops ls (now (hops .entry))) g ≡ parentIn (parentOf r)) ⌝ }
 {
     let n = hops.len() / 3;
     if n as u64 <= g {

@@ -16,7 +16,7 @@ use Rattle.network.specs.declared.Vl.{Vl}
 use Rattle.network.specs.declared.Stream.{Stream}
 use Rattle.network.specs.declared.Port.{Port}
 use Rattle.network.specs.declared.Hop.{Hop}
-use Rattle.network.specs.Network.{noSystem, noVl, noStream, noPort, noHop, systemAt, vlAt, streamAt, portAt, hopAt, parentAt}
+use Rattle.network.specs.Network.{parentIn, noSystem, noVl, noStream, noPort, noHop, systemAt, vlAt, streamAt, portAt, hopAt, parentAt}
 use Rattle.table.specs.Write.{Lists, listFor, recordsIn}
 use Rattle.table.specs.Decoded.{numberAt, ticksAt, parentOf, systemIn, vlIn, streamIn, portIn, hopIn, networkOf}
 
@@ -61,14 +61,18 @@ module _ (ls : Lists) where
 -- ---- end systems
 module _ (ls : Lists) (i : ℕ) where
   module _ (h : i < recordsIn ls 1) where
+    pub system-there : systemAt (networkOf ls) i ≡ systemIn ls i
+    unfolding networkOf
+    system-there = tabulate-at (systemIn ls) (recordsIn ls 1) i noSystem h
+
     pub system-per-byte : systemAt (networkOf ls) i .perbyte ≡ ticksAt (numberAt ls 1 i 0)
-    unfolding networkOf systemIn
-    system-per-byte = ap (λ (x : EndSystem). x .perbyte) (tabulate-at (systemIn ls) (recordsIn ls 1) i noSystem h)
+    unfolding systemIn
+    system-per-byte = ap (λ (x : EndSystem). x .perbyte) system-there
 
 -- ---- VLs
 module _ (ls : Lists) (i : ℕ) where
   module _ (h : i < recordsIn ls 2) where
-    vl-there : vlAt (networkOf ls) i ≡ vlIn ls i
+    pub vl-there : vlAt (networkOf ls) i ≡ vlIn ls i
     unfolding networkOf
     vl-there = tabulate-at (vlIn ls) (recordsIn ls 2) i noVl h
 
@@ -91,7 +95,7 @@ module _ (ls : Lists) (i : ℕ) where
 -- ---- streams
 module _ (ls : Lists) (i : ℕ) where
   module _ (h : i < recordsIn ls 3) where
-    stream-there : streamAt (networkOf ls) i ≡ streamIn ls i
+    pub stream-there : streamAt (networkOf ls) i ≡ streamIn ls i
     unfolding networkOf
     stream-there = tabulate-at (streamIn ls) (recordsIn ls 3) i noStream h
 
@@ -126,7 +130,7 @@ module _ (ls : Lists) (i : ℕ) where
 -- ---- ports
 module _ (ls : Lists) (i : ℕ) where
   module _ (h : i < recordsIn ls 4) where
-    port-there : portAt (networkOf ls) i ≡ portIn ls i
+    pub port-there : portAt (networkOf ls) i ≡ portIn ls i
     unfolding networkOf
     port-there = tabulate-at (portIn ls) (recordsIn ls 4) i noPort h
 
@@ -148,7 +152,7 @@ module _ (ls : Lists) (i : ℕ) where
   hop-past h = List·getD-eq-default (networkOf ls .hops) noHop {n = i} (omega (arith, hops-are ls))
 
   module _ (h : i < recordsIn ls 5) where
-    hop-there : hopAt (networkOf ls) i ≡ hopIn ls i
+    pub hop-there : hopAt (networkOf ls) i ≡ hopIn ls i
     unfolding networkOf
     hop-there = tabulate-at (hopIn ls) (recordsIn ls 5) i noHop h
 
@@ -160,16 +164,16 @@ module _ (ls : Lists) (i : ℕ) where
     unfolding hopIn
     hop-port = ap (λ (x : Hop). x .port) hop-there
 
-    pub hop-parent : parentAt (networkOf ls) i ≡ parentOf (numberAt ls 5 i 2)
+    pub hop-parent : parentAt (networkOf ls) i ≡ parentIn (parentOf (numberAt ls 5 i 2))
     unfolding hopIn
-    hop-parent = ap (λ (x : Hop). x .parent) hop-there
+    hop-parent = ap (λ (x : Hop). parentIn (x .parent)) hop-there
 
 -- a stored 0 is no parent, and another number the row before it
-pub parent-none : parentOf 0 ≡ none
+pub parent-none : parentIn (parentOf 0) ≡ none
 unfolding parentOf
 parent-none = refl
 
-pub parent-some : (g : ℕ) → parentOf (suc g) ≡ some g
+pub parent-some : (g : ℕ) → parentIn (parentOf (suc g)) ≡ some g
 unfolding parentOf
 parent-some g = refl
 

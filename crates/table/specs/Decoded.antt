@@ -1,7 +1,6 @@
 -- The network that lists of numbers describe: milliseconds and Mbit/s become ticks, and a parent's row + 1 becomes its row.
 -- Assumes nothing.
 use Prim.Native.Nat.{ℕ, zero, suc, _+_, _*_}
-use mathlib.Core.Option.{Option, none, some}
 use lib.Dec.{eqb}
 use lib.ListN.{getD}
 use Rattle.base.specs.Pick.{pick}
@@ -14,6 +13,8 @@ use Rattle.network.specs.declared.Vl.{Vl}
 use Rattle.network.specs.declared.Stream.{Stream}
 use Rattle.network.specs.declared.Port.{Port}
 use Rattle.network.specs.declared.Hop.{Hop}
+use Rattle.network.specs.declared.Parent.{Parent}
+use Rattle.network.specs.declared.Parent.the-variants.{Root, After}
 use Rattle.network.specs.Network.{Network}
 use Rattle.table.specs.Write.{Lists, listFor, recordsIn}
 
@@ -26,9 +27,9 @@ unfoldable pub ticksAt : ℕ → ℕ
 ticksAt mbit = pick (eqb mbit 100) (perByte Mbit100) (perByte Mbit10)
 
 -- a parent as it is stored: 0 for none, else its row + 1
-unfoldable pub parentOf : ℕ → Option ℕ
-parentOf zero = none
-parentOf (suc g) = some g
+unfoldable pub parentOf : ℕ → Parent
+parentOf zero = Root
+parentOf (suc g) = After g
 
 unfoldable pub systemIn : Lists → ℕ → EndSystem
 systemIn ls i = record { perbyte = ticksAt (numberAt ls 1 i 0) }

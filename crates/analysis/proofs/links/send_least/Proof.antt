@@ -1,16 +1,29 @@
 -- `analysis::links::send_least` meets its contract: the least line size at the ticks of its end system.
 -- Assumes nothing.
+use Prim.Native.Nat.{_≤_}
 use native.Mathlib.Omega.{arith}
 use Rattle.rows.specs.Links.{sendLine}
 use Rattle.frame.proofs.FrameLaws.{least-line-is}
+use Rattle.analysis.proofs.SheetLaws.{system-range, vl-system}
 use borrow.Author.Needs.{needs}
 use Rattle.analysis.proofs.links.send_least.Statement.{statement}
 use Rattle.analysis.proofs.links.send_least.Tie as tie
 
+system-at-requires : tie.Need-system-at-requires
+system-at-requires c κs = let p = c .before .pre in (p .0, vl-system (p .0) (c .vl-at .ensures) (p .1))
+
+-- the ticks of a byte on the end system's link are at most 10
+speed : (c : tie.After-system-at) → c .system-at .result .perbyte ≤ 10
+speed c =
+    let p = c .before .before .pre in
+    system-range (p .0) (c .system-at .ensures) (vl-system (p .0) (c .before .vl-at .ensures) (p .1)) .1
+
+mul-result : tie.Need-mul-result
+mul-result c = omega (arith, speed (c .before))
+
 returns : tie.Need-returns
 unfolding sendLine
-returns c =
-    (rw (c .system-byte .ensures .0, c .before .vl-at .ensures .system, least-line-is), omega arith)
+returns c = (rw (c .before .system-at .ensures, c .before .before .vl-at .ensures, least-line-is), omega (arith, speed (c .before)))
 
 pub send-least-spec : {M : Type 1} → statement M
-send-least-spec = tie.close (tie.spec (λ c κs. search needs) (λ c κs. search needs) (λ c. search needs) returns)
+send-least-spec = tie.close (tie.spec (λ c κs. search needs) system-at-requires mul-result returns)

@@ -2,10 +2,11 @@
 -- Assumes nothing.
 use Prim.Native.Nat.{suc, _-_, _≤_}
 use mathlib.Core.Logic.{⊎-elim}
-use mathlib.Core.Path.{_≡_, sym, _∙_}
+use mathlib.Core.Path.{_≡_, sym, ap, _∙_}
 use native.Mathlib.Numerals.{add-one}
 use native.Mathlib.Omega.{arith}
 use lib.ListN.{length}
+use Rattle.network.specs.declared.Vl.{Vl}
 use Rattle.analysis.specs.Sheet.{networkOn}
 use Rattle.analysis.specs.Computing.{sumWithout}
 use Rattle.analysis.proofs.BoundLaws.{sum-without-bound}
@@ -41,7 +42,7 @@ loop-again c =
     let net = networkOn (start .args .net .now) in
     let e = start .args .e in
     let but = start .args .but in
-    let system = c .before .before .vl-at .ensures .system in (
+    let system = ap (λ (x : Vl). x .system) (c .before .before .vl-at .ensures) in (
       omega arith,
       rw add-one
           (⊎-elim {C = c .if1 .sum ≡ sumWithout net e but (suc (l .v))}

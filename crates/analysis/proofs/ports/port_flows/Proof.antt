@@ -1,11 +1,13 @@
 -- `analysis::ports::port_flows` meets its contract: after h turns the flows of the first h hops that are on the port are gathered, and their jitters are noted.
 -- Assumes nothing.
 use mathlib.Core.Logic.{inl, inr}
-use mathlib.Core.Path.{sym, _∙_}
+use mathlib.Core.Path.{sym, ap, _∙_}
 use Prim.Native.Nat.{_-_}
 use native.Mathlib.Omega.{arith}
 use borrow.Author.Needs.{needs}
+use Rattle.network.specs.declared.Hop.{Hop}
 use Rattle.analysis.specs.Sheet.{networkOn}
+use Rattle.analysis.proofs.SheetLaws.{hop-names}
 use Rattle.analysis.proofs.PortFlowLaws.{Gathering, gathering-none, gathering-taken, gathering-passed, gathered-port, jitters-on-port}
 use Rattle.analysis.proofs.ports.port_flows.Statement.{statement}
 use Rattle.analysis.proofs.ports.port_flows.Tie as tie
@@ -22,8 +24,13 @@ loop-holds c = gathering-none _ _ _ _ (c .before .pre .4) (c .before .pre .3)
 hop-jitter-requires : tie.Need-hop-jitter-requires Inv-loop μ-loop
 hop-jitter-requires c κs =
     let asked = c .before .before .before .before .before .before .before .pre in
-    let on = sym (c .before .before .before .hop-at .ensures .port) ∙ c .before .if1 .taken in
+    let on = ap (λ (x : Hop). x .port) (sym (c .before .before .before .hop-at .ensures)) ∙ c .before .if1 .taken in
     (asked .0, omega arith, asked .1, rw on (asked .2), rw on (c .before .before .before .before .before .loop .inv .lower))
+
+vl-at-requires : tie.Need-vl-at-requires Inv-loop μ-loop
+vl-at-requires c κs =
+    let good = c .before .before .before .before .before .before .before .before .pre .0 in
+    (good, hop-names good (c .before .before .before .before .hop-at .ensures) (omega arith) .0)
 
 hop-most-requires : tie.Need-hop-most-requires Inv-loop μ-loop
 hop-most-requires c κs = (c .before .before .before .before .before .before .before .before .before .pre .0, omega arith)
@@ -40,9 +47,9 @@ loop-again c =
     let hop = c .before .before .hop-at .ensures in
     elim (c .if1 .came) [
       | inl t ↦
-          gathering-taken _ _ (l .h) (l .jitters) (l .flows) (l .count) (l .inv) few-hops (omega arith) (sym (hop .port) ∙ t .0 .taken) _ (t .2 .ensures) _ hop _ (t .3 .ensures) _ (t .4 .ensures .0)
+          gathering-taken _ _ (l .h) (l .jitters) (l .flows) (l .count) (l .inv) few-hops (omega arith) (sym (ap (λ (x : Hop). x .port) hop) ∙ t .0 .taken) _ (t .2 .ensures) _ hop _ (t .3 .ensures) _ (t .4 .ensures .0)
           _ (t .7) _ (t .6 .ensures) _ (t .8) _ (t .9)
-      | inr t ↦ gathering-passed _ _ (l .h) (l .jitters) (l .flows) (l .count) (l .inv) (omega arith) (λ e. t .0 .left (hop .port ∙ e)) _ (t .1) _ (t .2) _ (t .3)
+      | inr t ↦ gathering-passed _ _ (l .h) (l .jitters) (l .flows) (l .count) (l .inv) (omega arith) (λ e. t .0 .left (ap (λ (x : Hop). x .port) hop ∙ e)) _ (t .1) _ (t .2) _ (t .3)
     ]
 
 returns : tie.Need-returns Inv-loop μ-loop
@@ -65,7 +72,7 @@ port-flows-spec =
     hop-jitter-requires
     (λ c. search needs)
     (λ c. search needs)
-    (λ c κs. search needs)
+    vl-at-requires
     hop-most-requires
     put-flow-requires
     (λ c. search needs)

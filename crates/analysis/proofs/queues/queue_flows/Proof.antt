@@ -31,13 +31,14 @@ loop-again : tie.Need-loop-again Inv-loop μ-loop
 loop-again c =
     let l = c .before .before .before .before .loop in
     let a = c .before .before .before .before .before .before .args in
+    let net = networkOn (a .net .now) in
     let stream = c .before .before .stream-at .ensures in (
       omega arith,
       ⊎-elim
-          (λ w. rw (w .6, w .7) (gather-taken _ _ _ _ _ (l .inv .1) _ (on-sub-link _ (a .v) (a .k) _ _ stream (w .0 .taken) (w .2 .taken)) (w .4 .ensures) _ (w .5 .ensures .0) (w .5 .ensures .1)))
+          (λ w. rw (w .6, w .7) (gather-taken _ _ _ _ _ (l .inv .1) _ (on-sub-link net (a .v) (a .k) (l .s) _ stream (w .0 .taken) (w .2 .taken)) (w .4 .ensures) _ (w .5 .ensures .0) (w .5 .ensures .1)))
           (⊎-elim
-          (λ w. rw (w .3, w .4) (gather-passed _ _ _ _ _ (l .inv .1) (on-other-sub-link _ (a .v) (a .k) _ _ stream (w .2 .left))))
-          (λ w. rw (w .1, w .2) (gather-passed _ _ _ _ _ (l .inv .1) (on-other-vl _ (a .v) (a .k) _ _ stream (w .0 .left)))))
+          (λ w. rw (w .3, w .4) (gather-passed _ _ _ _ _ (l .inv .1) (on-other-sub-link net (a .v) (a .k) (l .s) _ stream (w .2 .left))))
+          (λ w. rw (w .1, w .2) (gather-passed _ _ _ _ _ (l .inv .1) (on-other-vl net (a .v) (a .k) (l .s) _ stream (w .0 .left)))))
           (c .if1 .came),
     )
 

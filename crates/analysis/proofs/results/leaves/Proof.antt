@@ -3,12 +3,12 @@
 use mathlib.Core.Bool.{Bool, true, false}
 use mathlib.Core.Path.{_≡_, _∙_}
 use mathlib.Core.Logic.{⊎-elim}
-use Prim.Native.Nat.{_+_, _-_, _≤_}
+use Prim.Native.Nat.{_+_, _-_, _≤_, _<_}
 use native.Mathlib.Omega.{arith}
-use borrow.Author.Tests.{not-true, not-false}
 use lib.ListN.{length, length-set, length-replicate}
 use Rattle.analysis.specs.Sheet.{networkOn}
-use Rattle.analysis.proofs.RowLaws.{no-parent, a-parent, LeavesTo, leaves-start, leaves-at-root, leaves-at-child, leaves-all}
+use Rattle.analysis.proofs.SheetLaws.{parent-there, parent-read}
+use Rattle.analysis.proofs.RowLaws.{LeavesTo, leaves-start, leaves-at-root, leaves-at-child, leaves-all}
 use borrow.Author.Needs.{needs}
 use Rattle.analysis.proofs.results.leaves.Statement.{statement}
 use Rattle.analysis.proofs.results.leaves.Tie as tie
@@ -22,17 +22,27 @@ abbrev μ-loop : tie.MeasureT-loop
 loop-holds : tie.Need-loop-holds Inv-loop μ-loop
 loop-holds c = (omega arith, length-replicate {A = Bool} 1024 true, leaves-start (networkOn (c .before .args .net .now)) (omega arith))
 
+array-write-leaves : tie.Need-array-write-leaves Inv-loop μ-loop
+array-write-leaves c =
+    let start = c .before .before .before .before .before .before .before in
+    let net = networkOn (start .args .net .now) in
+    let l = c .before .before .before .before .before .loop in
+    let parent = parent-read net (l .h) (c .before .before .before .hop-at .ensures) (c .before .parent .given .1) in
+    let inside : c .before .parent .given .0 .0 < 1024 = omega (arith, parent-there (start .pre) parent (omega arith), start .pre .ranges .few-hops) in
+    inside
+
 loop-again : tie.Need-loop-again Inv-loop μ-loop
 loop-again c =
     let net = networkOn (c .before .before .before .before .before .args .net .now) in
     let l = c .before .before .before .loop in
     let hop = c .before .hop-at in
-    let noted : (length (c .if1 .leaves) ≡ 1024) × LeavesTo net (l .h + 1) (c .if1 .leaves) = ⊎-elim
-    (λ w. rw (w .1)
-    (length-set (l .leaves) (hop .result .parent) false ∙ l .inv .1, leaves-at-child net (l .h) (hop .result .parent) (l .leaves) (a-parent _ (hop .result .root) (hop .result .parent) (hop .ensures .parent) (not-true _ (w .0 .taken))) (omega arith) (l .inv .2)))
-    (λ w. rw (w .1)
-    (l .inv .1, leaves-at-root net (l .h) (l .leaves) (no-parent _ (hop .result .root) (hop .result .parent) (hop .ensures .parent) (not-false _ (w .0 .left))) (l .inv .2)))
-    (c .if1 .came) in
+    let noted : (length (c .match .leaves) ≡ 1024) × LeavesTo net (l .h + 1) (c .match .leaves) = ⊎-elim
+    (λ w.
+    let g = w .1 .given .0 .0 in
+    let parent = parent-read net (l .h) (hop .ensures) (w .1 .given .1) in
+    rw (w .3) (length-set (l .leaves) g false ∙ l .inv .1, leaves-at-child net (l .h) g (l .leaves) parent (omega arith) (l .inv .2)))
+    (λ w. rw (w .2) (l .inv .1, leaves-at-root net (l .h) (l .leaves) (parent-read net (l .h) (hop .ensures) (w .1 .given .1)) (l .inv .2)))
+    (c .match .came) in
     (omega arith, noted .0, noted .1)
 
 returns : tie.Need-returns Inv-loop μ-loop
@@ -47,6 +57,8 @@ leaves-spec =
     (λ c κs. search needs)
     loop-holds
     (λ c κs. search needs)
+    (λ c. search needs)
+    array-write-leaves
     (λ c. search needs)
     (λ c. search needs)
     (λ c. search needs)

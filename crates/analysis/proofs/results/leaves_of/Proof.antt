@@ -6,6 +6,7 @@ use mathlib.Core.Logic.{⊎-elim}
 use Prim.Native.Nat.{_+_, _-_, _≤_}
 use native.Mathlib.Omega.{arith}
 use lib.ListN.{length, length-append}
+use Rattle.network.specs.declared.Hop.{Hop}
 use Rattle.base.specs.Tabulate.{passing}
 use Rattle.analysis.specs.Sheet.{networkOn}
 use Rattle.analysis.proofs.RowLaws.{leavesTo, leaves-of-all, leaves-to-hit, leaves-to-other, leaves-to-inner}
@@ -29,13 +30,13 @@ loop-again c =
     let net = networkOn (start .args .net .now) in
     let v = start .args .v in
     let l = c .before .before .before .before .loop in
-    let hop = c .before .before .hop-at .ensures in
+    let on = ap (λ (x : Hop). x .vl) (c .before .before .hop-at .ensures) in
     let known = start .pre .1 .leaf-is (l .h) (omega arith) in
     let counted : (c .if1 .count ≤ l .h + 1) × (c .if1 .count ≡ length (leavesTo net v (l .h + 1))) = ⊎-elim
-    (λ w. omega (arith, ap length (leaves-to-hit net v (l .h) (sym (hop .vl) ∙ w .0 .taken) (sym known ∙ w .2 .taken)), length-append (leavesTo net v (l .h)) (l .h ∷ [])))
+    (λ w. omega (arith, ap length (leaves-to-hit net v (l .h) (sym on ∙ w .0 .taken) (sym known ∙ w .2 .taken)), length-append (leavesTo net v (l .h)) (l .h ∷ [])))
     (⊎-elim
     (λ w. omega (arith, ap length (leaves-to-inner net v (l .h) (sym known ∙ w .2 .left))))
-    (λ w. omega (arith, ap length (leaves-to-other net v (l .h) (λ e. w .0 .left (hop .vl ∙ e))))))
+    (λ w. omega (arith, ap length (leaves-to-other net v (l .h) (λ e. w .0 .left (on ∙ e))))))
     (c .if1 .came) in
     (omega arith, counted .0, counted .1)
 

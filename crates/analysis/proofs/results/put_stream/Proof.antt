@@ -1,11 +1,13 @@
 -- `analysis::results::put_stream` meets its contract: after h turns the rows of the stream up to hop h stand behind those of the streams before.
 -- Assumes nothing.
 use mathlib.Core.Bool.{true}
-use mathlib.Core.Path.{_≡_, refl, sym, _∙_}
+use mathlib.Core.Path.{_≡_, refl, sym, ap, _∙_}
 use mathlib.Core.Logic.{⊎-elim}
 use Prim.Native.Nat.{_+_, _-_, _≤_, _<_}
 use native.Mathlib.Omega.{arith}
 use lib.ListN.{length}
+use Rattle.network.specs.declared.Stream.{Stream}
+use Rattle.network.specs.declared.Hop.{Hop}
 use Rattle.network.specs.Network.{streamAt, hopAt}
 use Rattle.network.specs.Views.{leaf}
 use Rattle.analysis.specs.Sheet.{networkOn}
@@ -32,7 +34,7 @@ destination c =
     let l = c .before .before .before .before .before .before .before .loop in
     let hop = c .before .before .before .before .before .hop-at .ensures in
     let inside : l .h < length (networkOn (start .args .net .now) .hops) = omega (arith, c .before .before .before .before .before .before .loop-test .taken, c .before .before .before .before .before .before .before .before .hops-in .ensures .0) in
-    (inside, sym (hop .vl) ∙ c .before .before .if1 .taken ∙ c .before .before .before .before .before .before .before .before .before .stream-at .ensures .vl, sym (start .pre .leaves-are .leaf-is (l .h) inside) ∙ c .if2 .taken)
+    (inside, sym (ap (λ (x : Hop). x .vl) hop) ∙ c .before .before .if1 .taken ∙ ap (λ (x : Stream). x .vl) (c .before .before .before .before .before .before .before .before .before .stream-at .ensures), sym (start .pre .leaves-are .leaf-is (l .h) inside) ∙ c .if2 .taken)
 
 -- there is room for its row
 room : (c : tie.Then2 Inv-loop μ-loop) →
@@ -73,14 +75,14 @@ loop-again c =
     let hop = c .before .before .before .hop-at .ensures in
     let inside : l .h < length (net .hops) = omega (arith, c .before .before .before .before .loop-test .taken, c .before .before .before .before .before .before .hops-in .ensures .0) in
     let known = start .pre .leaves-are .leaf-is (l .h) inside in
-    let stream-vl = c .before .before .before .before .before .before .before .stream-at .ensures .vl in
+    let stream-vl = ap (λ (x : Stream). x .vl) (c .before .before .before .before .before .before .before .stream-at .ensures) in
     let next : PutTo net (a .s) (l .h + 1) (c .if1 .next) n (c .if1 .result) = ⊎-elim
     (λ w.
     let d = destination record { before = record { before = record { before = c .before; if1 = w .0 }; if22 = w .1 }; if2 = w .2 } in
     rw (w .8, w .9) (put-more net (a .s) (l .next) n (l .result) (start .pre .fits) (start .pre .stream-there) (l .h) (d .0) (d .1) (d .2) (l .inv .2) (w .4 .result) _ (w .4 .ensures) (w .5 .ensures)))
     (⊎-elim
     (λ w. rw (w .3, w .4) (put-same net (a .s) (l .next) n (l .result) (l .h) (rows-up-to-inner net (a .s) (l .h) (sym known ∙ w .2 .left)) (l .inv .2)))
-    (λ w. rw (w .1, w .2) (put-same net (a .s) (l .next) n (l .result) (l .h) (rows-up-to-other net (a .s) (l .h) (λ e. w .0 .left (hop .vl ∙ e ∙ sym stream-vl))) (l .inv .2))))
+    (λ w. rw (w .1, w .2) (put-same net (a .s) (l .next) n (l .result) (l .h) (rows-up-to-other net (a .s) (l .h) (λ e. w .0 .left (ap (λ (x : Hop). x .vl) hop ∙ e ∙ sym stream-vl))) (l .inv .2))))
     (c .if1 .came) in
     (omega (arith, inside, c .before .before .before .before .before .before .hops-in .ensures .0), put-length net (a .s) (c .if1 .next) n (c .if1 .result) (start .pre .fits) (start .pre .stream-there) (l .h + 1) (omega (arith, inside)) next, next)
 

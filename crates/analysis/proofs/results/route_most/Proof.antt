@@ -4,12 +4,15 @@ use mathlib.Core.Path.{_≡_, ap, _∙_}
 use Prim.Native.Nat.{ℕ, _+_, _-_, _*_, _≤_, _<_}
 use native.Mathlib.Omega.{arith}
 use lib.ListN.{length, getD}
+use Rattle.network.specs.declared.Port.{Port}
+use Rattle.network.specs.declared.Hop.{Hop}
 use Rattle.rows.specs.Ports.{jitterOf}
 use Rattle.network.specs.Views.{route}
 use Rattle.analysis.specs.Sheet.{networkOn}
 use Rattle.analysis.specs.Placing.{routeMost}
 use Rattle.analysis.proofs.BoundLaws.{port-figure-bound}
-use Rattle.analysis.proofs.RowLaws.{no-parent, a-parent, along, along-root, along-child, along-none, mostAt, route-most-is, most-read}
+use Rattle.analysis.proofs.SheetLaws.{port-range, hop-names, parent-there, parent-read}
+use Rattle.analysis.proofs.RowLaws.{along, along-root, along-child, along-none, mostAt, route-most-is, most-read}
 use borrow.Author.Needs.{needs}
 use Rattle.analysis.proofs.results.route_most.Statement.{statement}
 use Rattle.analysis.proofs.results.route_most.Tie as tie
@@ -22,9 +25,12 @@ Inv-loop net figures h sum₀ left₀ g₀ sum left g =
 abbrev μ-loop : tie.MeasureT-loop
 μ-loop net figures h sum₀ left₀ g₀ sum left g = left
 
+port-there : (c : tie.After-hop-at Inv-loop μ-loop) → c .hop-at .result .port < length (networkOn (c .before .before .before .args .net .now) .ports)
+port-there c = hop-names (c .before .before .before .pre .0) (c .hop-at .ensures) (c .before .before .loop .inv .1) .1
+
 -- what hop g adds
 added : (c : tie.After-struct-known Inv-loop μ-loop) →
-    let d = c .before .before .port-at .result .«delay_greatest» in
+    let d = c .before .before .port-at .result .greatest in
     let figures = c .before .before .before .before .before .before .args .figures .now in
     let net = networkOn (c .before .before .before .before .before .before .args .net .now) in
     (d + getD figures (c .before .before .before .hop-at .result .port) 0 ≡ mostAt net (c .before .before .before .before .before .loop .g))
@@ -36,15 +42,25 @@ added c =
     let port = c .before .before .port-at in
     let good = start .pre .0 in
     let known = start .pre .2 in
+    let there = port-there (c .before .before .before) in
     let p = hop .result .port in (
-      most-read net (start .args .figures .now) (c .before .before .before .before .before .loop .g) p (port .result .«delay_greatest») known (hop .ensures .port-there) (hop .ensures .port) (port .ensures .delay-greatest),
-      omega (arith, port .ensures .delay-bound, known .figure-is p (hop .ensures .port-there), port-figure-bound net (good .ranges) (good .references) (jitterOf net) p),
+      most-read net (start .args .figures .now) (c .before .before .before .before .before .loop .g) p (port .result .greatest) known there (ap (λ (x : Hop). x .port) (hop .ensures)) (ap (λ (x : Port). x .greatest) (port .ensures)),
+      omega (arith, port-range good (port .ensures) there .delay-greatest, known .figure-is p there, port-figure-bound net (good .ranges) (good .references) (jitterOf net) p),
     )
 
 loop-holds : tie.Need-loop-holds Inv-loop μ-loop
 loop-holds c =
     let net = networkOn (c .args .net .now) in
     (omega arith, c .pre .1, omega arith, omega (arith, route-most-is net (c .args .h)))
+
+port-at-requires : tie.Need-port-at-requires Inv-loop μ-loop
+port-at-requires c κs = (c .before .before .before .pre .0, port-there c)
+
+mul-sum : tie.Need-mul-sum Inv-loop μ-loop
+mul-sum c = omega (arith, port-there (c .before))
+
+element-copy-out-sum : tie.Need-element-copy-out-sum Inv-loop μ-loop
+element-copy-out-sum c = omega (arith, port-there (c .before), c .before .before .before .before .pre .0 .ranges .few-ports)
 
 add-sum : tie.Need-add-sum Inv-loop μ-loop
 add-sum c = omega (arith, added c)
@@ -54,22 +70,24 @@ add-sum-2 c = omega (arith, added c)
 
 returns : tie.Need-returns Inv-loop μ-loop
 returns c =
-    let net = networkOn (c .before .before .before .before .before .before .before .args .net .now) in
-    let l = c .before .before .before .before .before .before .loop in
-    let hop = c .before .before .before .before .hop-at in
-    let now = added (c .before) in
-    let root = no-parent _ (hop .result .root) (hop .result .parent) (hop .ensures .parent) (c .if1 .taken) in
-    (ap (λ (n : ℕ). l .sum + n) (now .0) ∙ along-root net (mostAt net) (l .left) (l .g) (l .sum) _ (c .before .before .before .before .before .loop-test .taken) root (l .inv .3), omega arith)
+    let net = networkOn (c .before .before .before .before .before .before .before .before .args .net .now) in
+    let l = c .before .before .before .before .before .before .before .loop in
+    let hop = c .before .before .before .before .before .hop-at in
+    let now = added (c .before .before) in
+    let root = parent-read net (l .g) (hop .ensures) (c .enum-told .given .1) in
+    (ap (λ (n : ℕ). l .sum + n) (now .0) ∙ along-root net (mostAt net) (l .left) (l .g) (l .sum) _ (c .before .before .before .before .before .before .loop-test .taken) root (l .inv .3), omega (arith, now .1))
 
 loop-again : tie.Need-loop-again Inv-loop μ-loop
 loop-again c =
-    let net = networkOn (c .before .before .before .before .before .before .before .args .net .now) in
-    let l = c .before .before .before .before .before .before .loop in
-    let hop = c .before .before .before .before .hop-at in
-    let now = added (c .before) in
-    let parent = a-parent _ (hop .result .root) (hop .result .parent) (hop .ensures .parent) (c .if1 .left) in
-    let rest = along-child net (mostAt net) (l .left) (l .g) (hop .result .parent) (l .sum) _ (c .before .before .before .before .before .loop-test .taken) parent (l .inv .3) in
-    (omega arith, hop .ensures .parent-there, omega arith, rw (now .0) rest)
+    let good = c .before .before .before .before .before .before .before .before .before .pre .0 in
+    let net = networkOn (c .before .before .before .before .before .before .before .before .before .args .net .now) in
+    let l = c .before .before .before .before .before .before .before .before .loop in
+    let hop = c .before .before .before .before .before .before .hop-at in
+    let now = added (c .before .before .before) in
+    let g = c .before .parent .given .0 .0 in
+    let parent = parent-read net (l .g) (hop .ensures) (c .before .parent .given .1) in
+    let rest = along-child net (mostAt net) (l .left) (l .g) g (l .sum) _ (c .before .before .before .before .before .before .before .loop-test .taken) parent (l .inv .3) in
+    (omega arith, parent-there good parent (l .inv .1), omega (arith, now .1), rw (now .0) rest)
 
 returns-2 : tie.Need-returns-2 Inv-loop μ-loop
 returns-2 c =
@@ -85,11 +103,13 @@ route-most-spec =
     μ-loop
     loop-holds
     (λ c κs. search needs)
-    (λ c κs. search needs)
-    (λ c. search needs)
-    (λ c. search needs)
+    port-at-requires
+    mul-sum
+    element-copy-out-sum
     add-sum
     add-sum-2
+    (λ c. search needs)
+    (λ c. search needs)
     returns
     (λ c. search needs)
     (λ c. search needs)

@@ -4,6 +4,7 @@ use mathlib.Core.Path.{_≡_, ap, _∙_}
 use Prim.Native.Nat.{ℕ, _-_, _*_, _≤_}
 use native.Mathlib.Omega.{arith}
 use lib.ListN.{length}
+use Rattle.network.specs.declared.Stream.{Stream}
 use Rattle.network.specs.Views.{leavesOf}
 use Rattle.rows.specs.Rows.{rowsTo, rowsOf}
 use Rattle.analysis.specs.Sheet.{networkOn}
@@ -26,7 +27,7 @@ loop-again : tie.Need-loop-again Inv-loop μ-loop
 loop-again c =
     let net = networkOn (c .before .before .before .before .before .args .net .now) in
     let l = c .before .before .before .loop in
-    let all = ap (λ (v : ℕ). length (leavesOf net v)) (c .before .stream-at .ensures .vl) in
+    let all = ap (λ (x : Stream). length (leavesOf net (x .vl))) (c .before .stream-at .ensures) in
     omega (arith, length-rows-more net (l .s))
 
 returns : tie.Need-returns Inv-loop μ-loop

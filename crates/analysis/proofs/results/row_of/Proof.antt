@@ -1,15 +1,24 @@
 -- `analysis::results::row_of` meets its contract: each number of the row is what a function gave.
 -- Assumes nothing.
+use mathlib.Core.Path.{ap}
+use native.Mathlib.Omega.{arith}
+use Rattle.network.specs.declared.Stream.{Stream}
 use Rattle.analysis.specs.Sheet.{networkOn}
+use Rattle.analysis.proofs.SheetLaws.{stream-range}
 use Rattle.analysis.proofs.RowLaws.{row-read}
 use borrow.Author.Needs.{needs}
 use Rattle.analysis.proofs.results.row_of.Statement.{statement}
 use Rattle.analysis.proofs.results.row_of.Tie as tie
 
+add-jitter : tie.Need-add-jitter
+add-jitter c =
+    let p = c .before .before .before .before .before .before .pre in
+    omega (arith, stream-range (p .0 .good) (c .before .before .before .before .before .stream-at .ensures) (p .1))
+
 returns : tie.Need-returns
 returns c =
     let start = c .before .before .before .before .before .before in
-    row-read (networkOn (start .args .net .now)) (start .args .s) (start .args .h) _ _ _ _ _ (c .before .before .before .before .queue-of .ensures .0) (c .before .before .before .worst-of .ensures .0) (c .before .before .best-of .ensures) (c .before .before .before .before .before .stream-at .ensures .jitter) (c .before .less .ensures)
+    row-read (networkOn (start .args .net .now)) (start .args .s) (start .args .h) _ _ _ _ _ (c .before .before .before .before .queue-of .ensures .0) (c .before .before .before .worst-of .ensures .0) (c .before .before .best-of .ensures) (ap (λ (x : Stream). x .jitter) (c .before .before .before .before .before .stream-at .ensures)) (c .before .less .ensures)
 
 pub row-of-spec : {M : Type 1} → statement M
 row-of-spec =
@@ -20,5 +29,5 @@ row-of-spec =
     (λ c κs. search needs)
     (λ c κs. search needs)
     (λ c κs. search needs)
-    (λ c. search needs)
+    add-jitter
     returns)

@@ -1,17 +1,29 @@
 -- `analysis::results::worst_of` meets its contract: the parts are added up in 01's order.
 -- Assumes nothing.
 use mathlib.Core.Path.{_≡_, ap}
-use Prim.Native.Nat.{_≤_}
+use Prim.Native.Nat.{_≤_, _<_}
 use native.Mathlib.Omega.{arith}
-use lib.ListN.{getD}
+use lib.ListN.{length, getD}
+use Rattle.network.specs.declared.Stream.{Stream}
 use Rattle.network.specs.Network.{streamAt}
 use Rattle.rows.specs.Links.{sendMost, muxWait}
+use Rattle.analysis.specs.declared.sheet.Delays.{Delays}
 use Rattle.analysis.specs.Sheet.{networkOn}
 use Rattle.analysis.proofs.BoundLaws.{mux-wait-bound}
+use Rattle.analysis.proofs.SheetLaws.{DelayBounds, delays-range, stream-vl}
 use Rattle.analysis.proofs.RowLaws.{wait-read, worst-is}
 use borrow.Author.Needs.{needs}
 use Rattle.analysis.proofs.results.worst_of.Statement.{statement}
 use Rattle.analysis.proofs.results.worst_of.Tie as tie
+
+delays-known : (c : tie.After-delays-of) → DelayBounds (c .delays-of .result)
+delays-known c = delays-range (c .before .pre .0 .good) (c .delays-of .ensures)
+
+vl-there : (c : tie.After-stream-at) → c .stream-at .result .vl < length (networkOn (c .before .before .args .net .now) .vls)
+vl-there c = let p = c .before .before .pre in stream-vl (p .0 .good) (c .stream-at .ensures) (p .1)
+
+few-vls : (c : tie.After-stream-at) → c .stream-at .result .vl < 256
+few-vls c = omega (arith, vl-there c, c .before .before .pre .0 .good .ranges .few-vls)
 
 -- the mux wait of the stream's VL
 waited : (c : tie.After-sent) →
@@ -25,33 +37,37 @@ waited c =
     let v = streamAt net (start .args .s) .vl in
     let stream = c .before .before .before .stream-at in
     let known = start .pre .0 in
-    let is = wait-read net (start .args .waits .now) (stream .result .vl) v (known .waits-are) (stream .ensures .vl-there) (stream .ensures .vl) in
+    let is = wait-read net (start .args .waits .now) (stream .result .vl) v (known .waits-are) (vl-there (c .before .before .before)) (ap (λ (x : Stream). x .vl) (stream .ensures)) in
     (is, omega (arith, is, mux-wait-bound net (known .good .ranges) (known .good .references) v))
 
+send-most-requires : tie.Need-send-most-requires
+send-most-requires c κs = (c .before .before .before .before .before .pre .0 .good, vl-there (c .before .before .before))
+
 add-sent-2 : tie.Need-add-sent-2
-add-sent-2 c = omega (arith, waited c .1)
+add-sent-2 c = omega (arith, waited c .1, delays-known (c .before .before .before .before))
 
 add-sent-3 : tie.Need-add-sent-3
-add-sent-3 c = omega (arith, waited (c .before) .1)
+add-sent-3 c = omega (arith, waited (c .before) .1, delays-known (c .before .before .before .before .before))
 
 add-result : tie.Need-add-result
-add-result c = omega (arith, waited (c .before .before) .1)
+add-result c = omega (arith, waited (c .before .before) .1, delays-known (c .before .before .before .before .before .before))
 
 add-result-2 : tie.Need-add-result-2
-add-result-2 c = omega (arith, waited (c .before .before .before) .1)
+add-result-2 c = omega (arith, waited (c .before .before .before) .1, delays-known (c .before .before .before .before .before .before .before))
 
 returns : tie.Need-returns
 returns c =
     let start = c .before .before .before .before .before .before .before .before in
     let net = networkOn (start .args .net .now) in
-    let d = c .before .before .before .before .before .before .before .delays-of .ensures in
+    let is = c .before .before .before .before .before .before .before .delays-of .ensures in
+    let bounds = delays-known (c .before .before .before .before .before .before .before) in
     let queue = c .before .before .before .before .before .queue-of .ensures in
     let wait = waited (c .before .before .before) in
     let sent = c .before .before .send-most .ensures in
-    let on-vl = ap (sendMost net) (c .before .before .before .before .before .before .stream-at .ensures .vl) in
+    let on-vl = ap (λ (x : Stream). sendMost net (x .vl)) (c .before .before .before .before .before .before .stream-at .ensures) in
     let way = c .before .route-most .ensures in (
-      omega (arith, worst-is net (start .args .s) (start .args .h), d .send-greatest, queue .0, wait .0, sent .0, on-vl, way .0, d .receive-greatest),
-      omega (arith, d .send-bound, queue .1, wait .1, sent .1, way .1, d .receive-bound),
+      omega (arith, worst-is net (start .args .s) (start .args .h), ap (λ (d : Delays). d .«send_greatest») is, queue .0, wait .0, sent .0, on-vl, way .0, ap (λ (d : Delays). d .«receive_greatest») is),
+      omega (arith, bounds, queue .1, wait .1, sent .1, way .1),
     )
 
 pub worst-of-spec : {M : Type 1} → statement M
@@ -61,11 +77,11 @@ worst-of-spec =
     (λ c κs. search needs)
     (λ c κs. search needs)
     (λ c κs. search needs)
-    (λ c. search needs)
-    (λ c. search needs)
-    (λ c. search needs)
+    (λ c. omega (arith, delays-known (c .before .before .before)))
+    (λ c. omega (arith, few-vls (c .before .before)))
+    (λ c. few-vls (c .before .before))
     add-sent-2
-    (λ c κs. search needs)
+    send-most-requires
     add-sent-3
     (λ c κs. search needs)
     add-result

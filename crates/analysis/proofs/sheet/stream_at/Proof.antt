@@ -1,4 +1,4 @@
--- `analysis::sheet::stream_at` meets its contract: stream s is six of the seven numbers of its record.
+-- `analysis::sheet::stream_at` meets its contract: stream s is the seven numbers of its record, its kind as a truth value.
 -- Assumes nothing.
 use Rattle.analysis.proofs.SheetLaws.{stream-read}
 use borrow.Author.Needs.{needs}
@@ -7,8 +7,9 @@ use Rattle.analysis.proofs.sheet.stream_at.Tie as tie
 
 returns : tie.Need-returns
 returns c =
-    let p = c .before .before .before .before .before .before .pre in
-    stream-read (p .0) (c .before .before .before .before .before .before .args .s) (p .1)
+    let p = c .before .before .before .before .before .before .before .before .pre in
+    let kind = c .before .before .before .before .is-sampling in
+    stream-read (p .0) (c .before .before .before .before .before .before .before .before .args .s) (p .1) (kind .result) (kind .ensures)
 
 pub stream-at-spec : {M : Type 1} → statement M
 stream-at-spec =
@@ -21,6 +22,10 @@ stream-at-spec =
     (λ c. search needs)
     (λ c. search needs)
     (λ c. search needs)
+    (λ c. search needs)
+    (λ c. search needs)
+    (λ c. search needs)
+    (λ c κs. search needs)
     (λ c. search needs)
     (λ c. search needs)
     (λ c. search needs)

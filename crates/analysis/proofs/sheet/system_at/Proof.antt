@@ -1,9 +1,9 @@
--- `analysis::sheet::system_byte` meets its contract: end system e is number e of its list.
+-- `analysis::sheet::system_at` meets its contract: end system e is number e of its list.
 -- Assumes nothing.
 use Rattle.analysis.proofs.SheetLaws.{system-read}
 use borrow.Author.Needs.{needs}
-use Rattle.analysis.proofs.sheet.system_byte.Statement.{statement}
-use Rattle.analysis.proofs.sheet.system_byte.Tie as tie
+use Rattle.analysis.proofs.sheet.system_at.Statement.{statement}
+use Rattle.analysis.proofs.sheet.system_at.Tie as tie
 
 returns : tie.Need-returns
 returns c =
@@ -11,7 +11,7 @@ returns c =
     let p = c .before .before .pre in
     system-read (p .0) (a .e) (c .ticks-at .result) (p .1) (c .ticks-at .ensures)
 
-pub system-byte-spec : {M : Type 1} → statement M
-system-byte-spec =
+pub system-at-spec : {M : Type 1} → statement M
+system-at-spec =
     tie.close
     (tie.spec (λ c. search needs) (λ c. search needs) (λ c. search needs) (λ c κs. search needs) returns)
