@@ -222,11 +222,13 @@ test_symbolic_link_from_another_folder() {
 }
 
 test_folder_of_cdpath_is_not_entered() {
-    mkdir -p elsewhere/here elsewhere/tools here
-    ln -s "$front" here/avulgjesh
-    CDPATH=$PWD/elsewhere sh here/avulgjesh latency "$examples/whole-case.tbl" >out || no "status $?"
+    mkdir -p "decoy/${root##*/}" here decoy/here
+    CDPATH=$PWD/decoy
+    export CDPATH
+    (cd -- "$root/.." && sh "${root##*/}/avulgjesh" latency "$examples/whole-case.tbl") >out || no "by its folder: status $?"
     same out "$examples/whole-case.rows"
-    (cd -- "$root/.." && CDPATH=$room:/ sh "${root##*/}/avulgjesh" latency "$examples/whole-case.tbl") >out || no "by its folder: status $?"
+    ln -s "$front" here/avulgjesh
+    sh here/avulgjesh latency "$examples/whole-case.tbl" >out || no "by a link: status $?"
     same out "$examples/whole-case.rows"
     (cd -- "$root" && sh avulgjesh latency examples/whole-case.tbl) >out || no "from its own folder: status $?"
     same out "$examples/whole-case.rows"
@@ -252,10 +254,14 @@ test_wrong_words_are_usage() {
     gives 2 latency
     gives 2 verify
     gives 2 record
-    gives 2 record a b
+    sentence '^usage: '
+    gives 2 record "$examples/whole-case.tbl" "$examples/empty.tbl"
     silent
+    sentence '^usage: '
     gives 2 pack
-    gives 2 pack a b
+    gives 2 pack "$examples/whole-case.txt" "$examples/empty.txt"
+    silent
+    sentence '^usage: '
 }
 
 test_version_names_the_stamp() {

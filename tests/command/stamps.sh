@@ -252,7 +252,7 @@ test_proof_that_fails_is_ours() {
 }
 
 test_program_that_fails_is_ours() {
-    for wrong in 'exit 1' 'kill -9 $$' 'echo no answer >&2' 'printf "stream hop queue worst best jitter\n0 0 1 2 3\n"' \
+    for wrong in 'exit 1' 'cat '"$PWD"'/rows; exit 1' 'kill -9 $$' 'echo no answer >&2' 'printf "stream hop queue worst best jitter\n0 0 1 2 3\n"' \
         'printf "stream hop queue worst best jitter\n0 0 1 2 3 4"' ':' 'printf "refused 1 0\n"' 'printf "refused 1 0 0\nrefused 1 0 0\n"' \
         'printf "stream hop queue worst best jitter\n0 0 1 2 3 4\n"; echo latency: the answer could not be written whole >&2'; do
         rm -rf house pretend
