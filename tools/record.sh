@@ -6,8 +6,6 @@ TICK=80
 REQUESTS=none
 MOST_RECORD=3000000
 
-heading='^avulgjesh-record '
-
 # ---- bytes in hexadecimal, 32 a line, and back
 hex_of() { od -An -v -tx1 "$1" | tr -d ' \n' | fold -w 64; } # FILE
 
@@ -104,11 +102,7 @@ tell() { printf '%s: %s\n' "$shown" "$*"; }
 
 # One record: 0 the same, 1 table or rows differ, 2 damaged.
 verify_one() { # RECORD; $shown is its name
-    if ! grep -q "$heading" "$1"; then
-        tell "damaged: it does not begin as a record does"
-        return 2
-    fi
-    format=$(sed -n "1s/${heading}\\([1-9][0-9]*\\)\$/\\1/p" "$1")
+    format=$(sed -n '1s/^avulgjesh-record \([1-9][0-9]*\)$/\1/p' "$1")
     if [ -n "$format" ] && [ "$format" != "$FORMAT" ]; then
         tell "made under other rules: a record of format $format, and format $FORMAT is known here; it is not looked at"
         return 2

@@ -11,7 +11,7 @@ sources_now() { # the hash in $sources, and sha256sum's lines in $work/sources
         cd -- "$home" &&
             find -L crates.txt crates -type f \( -path crates.txt -o -path 'crates/*/src/*.rt' -o -path 'crates/*/specs/*.antt' -o -path 'crates/*/proofs/*.antt' \) \
                 -exec sha256sum {} +
-    ) >"$work/found" 2>"$work/said" || die 3 "the sources cannot be read: $(tail -n 1 "$work/said")"
+    ) >"$work/found" 2>"$work/said" || die 3 "the sources cannot be hashed: $(tail -n 1 "$work/said")"
     sort "$work/found" >"$work/sources" || die 3 "a private file cannot be written"
     sha_of "$work/sources"
     sources=$sha

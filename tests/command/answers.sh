@@ -68,22 +68,36 @@ test_program_says_a_write_that_fails() {
     same err wanted
 }
 
-# A pipe that does not wait takes some rows and then no more: what it took is a beginning of the answer, with no row left out.
+# A pipe that does not wait takes some rows and then no more, or only shorter ones: what it took is a beginning of the answer, with no row
+# left out. Long rows stand before short ones, and the pipe is filled to a little more each time, so that some time a short one would fit.
 test_program_stops_at_the_first_write_that_fails() {
-    full
+    awk 'BEGIN {
+        print "delays 0 0 0 0\nsystem 100\nvl 0 128 1 64"
+        for (v = 1; v < 5; v++) print "vl 0 1 1 64"
+        print "stream 0 0 queuing 17 17 3200000 0\nstream 0 0 queuing 17 17 3200000 0"
+        for (v = 1; v < 5; v++) print "stream " v " 0 queuing 17 17 12500 0"
+        for (p = 0; p < 128; p++) print "port 100 0 0"
+        for (v = 0; v < 5; v++) for (p = 0; p < 128; p++) print "hop " v " " p " none"
+    }' | "$examples/pack" >uneven.tbl
+    "$root/tools/built" latency <uneven.tbl >all
+    [ "$(wc -l <all)" -eq 769 ] || no "the table has not 768 rows: $(head -n 1 all)"
+    printf 'latency: the answer could not be written whole\n' >wanted
     mkfifo pipe
     exec 4<>pipe
-    head -c 45000 /dev/zero >&4
-    dd oflag=nonblock count=0 >&4 2>/dev/null
-    "$root/tools/built" latency <full.tbl >&4 2>err
-    printf 'latency: the answer could not be written whole\n' >wanted
-    same err wanted
-    dd iflag=nonblock bs=100000 <&4 2>/dev/null | tail -c +45001 >some
-    "$root/tools/built" latency <full.tbl >all
-    [ -s some ] || no "the pipe took nothing"
-    head -c "$(wc -c <some)" all >beginning
-    same some beginning
-    [ "$(wc -c <some)" -lt "$(wc -c <all)" ] || no "the pipe took all"
+    dd if=/dev/zero bs=4096 count=100000 oflag=nonblock >&4 2>/dev/null
+    holds=$(dd iflag=nonblock bs=100000 <&4 2>/dev/null | wc -c)
+    filled=$((holds - 3500))
+    while [ "$filled" -lt $((holds - 3460)) ]; do
+        dd if=/dev/zero bs="$filled" count=1 >&4 2>/dev/null
+        "$root/tools/built" latency <uneven.tbl >&4 2>err
+        same err wanted
+        dd iflag=nonblock bs=100000 <&4 2>/dev/null | tail -c "+$((filled + 1))" >some
+        [ -s some ] || no "the pipe took nothing"
+        [ "$(wc -c <some)" -lt "$(wc -c <all)" ] || no "the pipe took all"
+        head -c "$(wc -c <some)" all >beginning
+        same some beginning "what the pipe took"
+        filled=$((filled + 3))
+    done
 }
 
 # ---- input: taken once, and a failed read is no table
@@ -93,7 +107,7 @@ test_pipe_gives_what_the_file_gives() {
     cat "$examples/whole-case.tbl" | "$front" latency /dev/stdin >out || no "from /dev/stdin: status $?"
     same out "$examples/whole-case.rows" "the answer from /dev/stdin"
     mkfifo pipe
-    cat "$examples/whole-case.tbl" >pipe &
+    timeout 60 sh -c 'cat "$0" >pipe' "$examples/whole-case.tbl" &
     gives 0 latency pipe
     same out "$examples/whole-case.rows" "the answer from a pipe with a name"
 }

@@ -66,7 +66,7 @@ test_record_of_a_pipe_has_no_name_and_the_right_hash() {
     cat "$examples/whole-case.tbl" | "$front" record - >out || no "status $?"
     same out wanted "the record from -"
     mkfifo pipe
-    cat "$examples/whole-case.tbl" >pipe &
+    timeout 60 sh -c 'cat "$0" >pipe' "$examples/whole-case.tbl" &
     gives 0 record pipe
     same out wanted "the record from a pipe with a name"
 }
