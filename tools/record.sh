@@ -1,5 +1,5 @@
-# Records: read by ../avulgjesh. `record` writes one text file that ties an answer to its table and its program; `verify` runs the table of a record
-# again and says what is the same. docs/RECORD.md has the format.
+# Records: read by ../avulgjesh. `record` writes one text file that ties an answer to its table and its program; `verify` runs the table of
+# a record again and says what is the same. docs/RECORD.md has the format.
 
 FORMAT=1
 TICK=80

@@ -1,16 +1,16 @@
-# What program is in use: read by ../avulgjesh. The program is proved and built by rt; a stamp beside it says from what, and each run compares.
-# The stamp has the program's SHA-256, the sources' hash, the commit if the sources are the commit's, and the toolchain.
+# What program is in use: read by ../avulgjesh. The program is proved and built by rt; a stamp beside it says from what, and each run
+# compares: the program's SHA-256, the sources' hash and the toolchain. The commit is named if the sources are the commit's.
 
 program=$home/target/bin/latency
 stamp=$home/target/bin/latency.stamp
 
-# The sources: crates.txt, every .rt file of a crate's src and every .antt file of its specs and proofs, by path and content. Tables, notes, must-fail edits
-# and the runs' stdin and stdout are no part: they try the program and do not make it.
+# The sources: crates.txt, every .rt file of a crate's src and every .antt file of its specs and proofs, by path and content. Tables, notes,
+# must-fail edits and the runs' stdin and stdout are no part: they try the program and do not make it.
 sources_now() { # the hash in $sources, and sha256sum's lines in $work/sources
     (
         cd -- "$home" &&
-            find -L crates.txt crates -type f \( -path crates.txt -o -path 'crates/*/src/*.rt' -o -path 'crates/*/specs/*.antt' -o -path 'crates/*/proofs/*.antt' \) \
-                -exec sha256sum {} +
+            find -L crates.txt crates -type f \( -path crates.txt -o -path 'crates/*/src/*.rt' -o -path 'crates/*/specs/*.antt' \
+                -o -path 'crates/*/proofs/*.antt' \) -exec sha256sum {} +
     ) >"$work/found" 2>"$work/said" || die 3 "the sources cannot be hashed: $(tail -n 1 "$work/said")"
     sort "$work/found" >"$work/sources" || die 3 "a private file cannot be written"
     sha_of "$work/sources"
@@ -24,7 +24,8 @@ commit_now() { # after sources_now
     [ "$(git -C "$home" rev-parse --show-toplevel 2>/dev/null)" = "$home" ] || return 0
     head=$(git -C "$home" rev-parse --verify --quiet HEAD) || return 0
     git -C "$home" ls-tree -r "$head" -- crates.txt crates 2>/dev/null |
-        awk -F '\t' '{ split($1, w, " ") } $2 == "crates.txt" || $2 ~ /^crates\/[^\/]*\/(src\/.*\.rt|(specs|proofs)\/.*\.antt)$/ { print w[3] " " $2 }' |
+        awk -F '\t' '
+            $2 == "crates.txt" || $2 ~ /^crates\/[^\/]*\/(src\/.*\.rt|(specs|proofs)\/.*\.antt)$/ { split($1, w, " "); print w[3] " " $2 }' |
         sort >"$work/committed"
     sed 's/^[0-9a-f]*  //' "$work/sources" >"$work/paths"
     (cd "$home" && git hash-object --no-filters --stdin-paths <"$work/paths" 2>/dev/null) >"$work/blobs" || return 0
@@ -76,7 +77,8 @@ stamped() { # SOURCES COMMIT TOOLCHAIN
 # How many crates the program stands on, itself among them.
 crates_reached() {
     awk '
-        { sub(/#.*/, ""); i = index($0, ":"); if (!i) next; name = substr($0, 1, i - 1); gsub(/[ \t]/, "", name); deps[name] = substr($0, i + 1) }
+        { sub(/#.*/, ""); i = index($0, ":") }
+        i { name = substr($0, 1, i - 1); gsub(/[ \t]/, "", name); deps[name] = substr($0, i + 1) }
         function visit(name,    d, k, n) {
             if (!(name in deps) || name in seen) return
             seen[name]

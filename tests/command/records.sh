@@ -203,7 +203,8 @@ test_other_rules_are_said_first_and_are_no_fault() {
     sed -e 's/^tick-ns .*/tick-ns 8/' -e 's/^requests .*/requests M-102/' -e 's/ 19398 / 193980 /' good >bad
     resealed bad
     gives 1 verify bad
-    sed -n 1p out | grep -q '^bad: made under other rules: tick-ns 8, here 80, requests M-102, here none$' || no "it says '$(head -n 1 out)'"
+    sed -n 1p out | grep -q '^bad: made under other rules: tick-ns 8, here 80, requests M-102, here none$' ||
+        no "it says '$(head -n 1 out)'"
     sed -n 2p out | grep -q '^bad: the rows differ, .*the table is as it was recorded$' || no "then '$(sed -n 2p out)'"
     sed '1s/1/2/' good >bad
     resealed bad
