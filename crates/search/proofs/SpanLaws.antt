@@ -9,7 +9,7 @@ use native.Mathlib.Decide.{decLt}
 use native.Mathlib.Omega.{arith}
 use lib.Dec.{leb}
 use borrow.Author.Tests.{le-leb, lt-leb, leb-true, leb-false, eq-eqb, ne-eqb}
-use Rattle.base.proofs.LeastLaws.{least-is, least-none, least-was, none-was, greatest-is, greatest-at}
+use Rattle.base.proofs.LeastLaws.{least-is, least-none, least-was, greatest-is, greatest-at}
 use Rattle.search.specs.Spans.{leastLengthTo, excess, leastSpan}
 
 pub lt-or-ge : (a b : ℕ) → (a < b) ⊎ (b ≤ a)

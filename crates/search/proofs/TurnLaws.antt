@@ -1,9 +1,9 @@
 -- A turn keeps what is known where the search stands, for any function g of the span that grows with it, and leaves less to do.
 -- Assumes nothing.
-use Prim.Native.Nat.{ℕ, suc, _+_, _-_, _≤_, _<_, min}
+use Prim.Native.Nat.{ℕ, suc, _+_, _-_, _≤_, _<_}
 use mathlib.Core.Bool.{Bool, true, false, _&&_, false≢true}
 use mathlib.Core.Option.{some}
-use mathlib.Core.Path.{_≡_, refl, sym, ap, _∙_}
+use mathlib.Core.Path.{_≡_, refl, ap, _∙_}
 use native.Mathlib.Omega.{arith}
 use lib.Dec.{leb, ltb, eqb}
 use borrow.Author.Tests.{leb-true, leb-false, ltb-true, ltb-false, eqb-true, eqb-false, lt-leb}
@@ -16,7 +16,7 @@ use Rattle.search.specs.Spans.{limit, Monotone, leastLength}
 use Rattle.search.specs.Pass.{cycle}
 use Rattle.search.specs.Turn.{begun, goesOn, spanOf, improved, seeded, fallen, turnedDown, risen, turnOf}
 use Rattle.search.specs.Searching.{Passed, Even, WayUp, Known, WayDown, Seed, Searching, left}
-use Rattle.search.proofs.FlowLaws.{limit-is, and-true}
+use Rattle.search.proofs.FlowLaws.{and-true}
 use Rattle.search.proofs.SpanLaws.{length-was}
 use Rattle.search.proofs.EvenLaws.{enough-all, enough-cycle}
 use Rattle.search.proofs.Ways.{up-start, up-found, up-none, up-next, down-begin, known-improved, known-next, next-less, down-end}

@@ -1,4 +1,5 @@
-// Differences that stop at 0, and the lesser and the greater of two numbers.
+// Differences that stop at 0, and the lesser and the greater of two numbers,
+// as the definitions have them.
 ghost use mathlib.Core.Path.{_≡_};
 ghost use Prim.Native.Nat.{_-_, max, min};
 

@@ -1,4 +1,5 @@
 // One pass over the flows, for a span of d ticks: one flow more, and whether each is in range.
+// The ranges bound what a flow brings, so that no sum wraps.
 use crate::Flow;
 use crate::Tally;
 use crate::compare::greater;
@@ -14,7 +15,7 @@ ghost use Rattle.search.specs.Flows.{inRange};
 ghost use Rattle.search.specs.Spans.{limit};
 ghost use Rattle.search.specs.Pass.{evenly, taken, withFlow, addTo};
 
-// Work beyond this is not added to, so that no sum wraps; 1,024 flows in range bring far less within the limit.
+// Work of 2^63 or more is not added to; 1,024 flows in range bring far less within the limit.
 const MOST_WORK: u64 = 9_223_372_036_854_775_808;
 
 // Whether a flow is in range.

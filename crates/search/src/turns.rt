@@ -1,4 +1,5 @@
-// One turn of the search: it rises to the least length that serves and falls to the greatest excess; each turn is given what a pass has found.
+// One turn of the search: it rises to the least length that serves and falls to the greatest excess.
+// Each turn is given what a pass has found: the work that a span brings, and the tick of the last arrival in it.
 use crate::Best;
 use crate::Search;
 use crate::Tally;

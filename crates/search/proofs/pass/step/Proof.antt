@@ -2,7 +2,6 @@
 -- Assumes nothing.
 use native.Mathlib.Omega.{arith}
 use borrow.Author.Needs.{needs}
-use mathlib.Core.Path.{refl}
 use Rattle.search.proofs.FlowLaws.{Fits, fits}
 use Rattle.search.proofs.PassLaws.{with-flow-is}
 use Rattle.search.proofs.pass.step.Statement.{statement}
@@ -33,7 +32,7 @@ still-even-requires : tie.Need-still-even-requires
 still-even-requires c κs = known (c .before .before .before .before .before .before .before) .pos
 
 returns : tie.Need-returns
-returns c = with-flow-is _ _ _ _ _ _ _ (c .before .before .less .ensures) (c .before .greater .ensures) refl (c .still-even .ensures)
+returns c = with-flow-is _ _ _ _ _ _ _ (c .before .before .less .ensures) (c .before .greater .ensures) (omega arith) (c .still-even .ensures)
 
 pub step-spec : {M : Type 1} → statement M
 step-spec =

@@ -1,6 +1,5 @@
 -- `search::turns::beyond_cycle` meets its contract: where the work is even, the length decides.
 -- Assumes nothing.
-use borrow.Author.Needs.{needs}
 use Rattle.search.specs.Pass.{cycle}
 use Rattle.search.proofs.turns.beyond_cycle.Statement.{statement}
 use Rattle.search.proofs.turns.beyond_cycle.Tie as tie

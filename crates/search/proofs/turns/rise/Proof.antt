@@ -10,19 +10,19 @@ use Rattle.search.proofs.turns.rise.Tie as tie
 
 returns : tie.Need-returns
 unfolding limit
-returns c = risen-out _ _ _ _ _ (c .if1 .taken)
+returns c = risen-out _ _ _ _ _ (omega (arith, c .if1 .taken))
 
 returns-2 : tie.Need-returns-2
 unfolding limit
-returns-2 c = c .turn-down .ensures ∙ risen-found _ _ _ _ _ (c .before .before .if1 .left) (c .before .if2 .taken)
+returns-2 c = c .turn-down .ensures ∙ risen-found _ _ _ _ _ (omega (arith, c .before .before .if1 .left)) (omega (arith, c .before .if2 .taken))
 
 returns-3 : tie.Need-returns-3
 unfolding limit
-returns-3 c = risen-none _ _ _ _ _ (c .before .before .if1 .left) (c .before .if2 .left) (c .if3 .taken)
+returns-3 c = risen-none _ _ _ _ _ (omega (arith, c .before .before .if1 .left)) (omega (arith, c .before .if2 .left)) (omega (arith, c .if3 .taken))
 
 returns-4 : tie.Need-returns-4
 unfolding limit
-returns-4 c = risen-on _ _ _ _ _ (c .before .before .if1 .left) (c .before .if2 .left) (c .if3 .left)
+returns-4 c = risen-on _ _ _ _ _ (omega (arith, c .before .before .if1 .left)) (omega (arith, c .before .if2 .left)) (omega (arith, c .if3 .left))
 
 pub rise-spec : {M : Type 1} → statement M
 rise-spec = tie.close (tie.spec returns (λ c. search needs) (λ c. search needs) (λ c κs. search needs) returns-2 returns-3 (λ c. search needs) returns-4)
