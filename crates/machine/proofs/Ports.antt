@@ -208,6 +208,7 @@ module _ (net : Network) (sound : Sound net) (r : Run) (per : Endless net r) (wi
   pub arrive : (p : ℕ) → Arrive p
   arrive p = all-below (suc p) p (le-refl (suc p))
 
+  -- what waits at a port is at most its figure: for 02, M-106 (how much memory a port needs); cited by nobody yet
   pub held-within : (p t : ℕ) → Held-within p t
   held-within p t = held p (arrive p) t
 
