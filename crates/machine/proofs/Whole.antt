@@ -26,12 +26,10 @@ use Rattle.rows.specs.Links.{sendMost, sendLine, sendSpread, sendSum, muxWait, 
 use Rattle.rows.specs.Ports.{hopFlow, portFlows, portLength, portFigure, rootJitter, jitterBelow, jitterOf, figureOf}
 use Rattle.rows.specs.Queues.{queueFlow, queueFlows, queueLength, queueFigure}
 use Rattle.rows.specs.Rows.{queueOf, worstParts, worst, bestParts, best, rowJitter, rowOf, rowsTo, rowsOf}
-use Rattle.search.specs.Pass.{lastOf}
-use Rattle.search.specs.Turn.{improved}
 use Rattle.station.specs.Searching.{lastIn}
 use Rattle.station.specs.Station.{Flow, most, brought, limit, busyLength, figure}
 use Rattle.station.specs.Offered.{inRange, allInRange}
-use Rattle.station.proofs.Computed.{climb, descend, computed-length, computed-figure}
+use Rattle.station.proofs.Computed.{lastOf, improved, climb, descend, computed-length, computed-figure}
 use Rattle.machine.specs.Sound.{Sound, Has, Busy}
 use Rattle.machine.specs.OverNetworks.{Holds}
 use Rattle.machine.proofs.OverNetworks.{demand-3-over-networks}

@@ -22,14 +22,12 @@ use Rattle.rows.specs.Links.{sendMost, sendSum, hopMost}
 use Rattle.rows.specs.Queues.{queueFlow, queueFlows, queueLength, queueFigure}
 use Rattle.rows.specs.Ports.{hopFlow, portFlows, portLength, portFigure}
 use Rattle.rows.specs.Refusals.{sendsLate, lateSystem, endlessSubLink, endlessVl}
-use Rattle.search.specs.Pass.{lastOf}
-use Rattle.search.specs.Turn.{improved}
 use Rattle.station.specs.Answer.{said}
 use Rattle.station.specs.Station.{Flow, most, brought, limit, busyLength, figure}
 use Rattle.station.specs.Offered.{mostFlows, inRange, allInRange, offered, stationSays}
 use Rattle.station.specs.Searching.{lastIn}
 use Rattle.station.proofs.AnswerLaws.{served-was, endless-was}
-use Rattle.station.proofs.Computed.{climb, descend, computed-served, computed-none}
+use Rattle.station.proofs.Computed.{lastOf, improved, climb, descend, computed-served, computed-none}
 use Rattle.station.proofs.Facts.{no-flows}
 use Rattle.numbers.specs.Numbers.{queueNet, stream, portNet, refusedAt, unless, queueSays, portSays, sendSays, numbers, Numbers-hold}
 
