@@ -1,4 +1,5 @@
 pub mod LayoutLaws
+pub mod SizeLaws
 pub mod FieldLaws
 pub mod RowLaws
 pub mod FaultLaws

@@ -1,4 +1,5 @@
 pub mod Layout
 pub mod Fields
 pub mod Rows
+pub mod Sizes
 pub mod Contracts

@@ -1,10 +1,12 @@
 // The layout of the packed table as data, and a record of it as a row of numbers: read, tested, meant, stored and written.
 // One body serves every section: what differs between sections stands in `shapes`, and in the three sizes and the order of fields below.
 mod shapes;
+pub mod sizes;
 
 use bits::Cursor;
 use frame::Reply;
 use shapes::shape_at;
+use sizes::LONGEST;
 ghost use mathlib.Core.Path.{_≡_};
 ghost use mathlib.Core.Option.{none, some};
 ghost use Prim.Native.Nat.{_≤_};
@@ -160,10 +162,10 @@ fn convert_field(way: Way, s: Shape, n: u64) -> Reply
 }
 
 // The stored numbers of a section's row that begins at bit `at`; zeros where the table has no such row.
-pub fn row_at(table: &[u8], at: usize, section: usize) -> [u64; 11]
+pub fn row_at(table: &[u8], at: usize, section: usize) -> [u64; LONGEST]
     ensures { λ r. ⌜ r ≡ wide (rowAt (now (table .entry)) at section) ⌝ }
 {
-    let mut row = [0u64; 11];
+    let mut row = [0u64; LONGEST];
     if has_row(table.len(), at, section) {
         let n = fields_in(section);
         let mut c = Cursor::new(at);
@@ -180,7 +182,7 @@ pub fn row_at(table: &[u8], at: usize, section: usize) -> [u64; 11]
 }
 
 // Writes the stored numbers of a section's row that begins at bit `at`; nothing where there is no such row.
-pub fn put_row(table: &mut [u8], at: usize, section: usize, row: [u64; 11])
+pub fn put_row(table: &mut [u8], at: usize, section: usize, row: [u64; LONGEST])
     ensures { λ _. ⌜ now (table .exit) ≡ withRowAt (now (table .entry)) at section row ⌝ }
 {
     if has_row(table.len(), at, section) {
@@ -210,11 +212,11 @@ fn has_row(n: usize, at: usize, section: usize) -> bool
 }
 
 // The row's numbers converted, 0 where one is out of range.
-pub fn converted_row(way: Way, section: usize, row: [u64; 11]) -> [u64; 11]
+pub fn converted_row(way: Way, section: usize, row: [u64; LONGEST]) -> [u64; LONGEST]
     ensures { λ r. ⌜ r ≡ wide (converted way (layout section) row) ⌝ }
 {
     let n = fields_in(section);
-    let mut out = [0u64; 11];
+    let mut out = [0u64; LONGEST];
     let mut k = 0;
     while k < n {
         let s = shape_at(section, k);
@@ -234,7 +236,7 @@ fn value_or_0(r: Reply) -> u64
 }
 
 // The first test of a row that fails.
-pub fn fault_of(way: Way, section: usize, row: [u64; 11]) -> Fault
+pub fn fault_of(way: Way, section: usize, row: [u64; LONGEST]) -> Fault
     ensures { λ r. ⌜ faultOf r ≡ rowFault way section row ⌝ }
 {
     let n = fields_in(section);
@@ -259,7 +261,7 @@ fn is_refused(r: Reply) -> bool
 }
 
 // The first pair of fields that are not in order.
-fn order_fault(section: usize, row: [u64; 11]) -> Fault
+fn order_fault(section: usize, row: [u64; LONGEST]) -> Fault
     ensures { λ r. ⌜ faultOf r ≡ orderFault section row ⌝ }
 {
     match section {

@@ -2,6 +2,14 @@
 -- Assumes nothing.
 use mathlib.Core.Path.{refl, sym, _∙_}
 use Rattle.base.specs.Settles.{Settles}
+use Rattle.unpacker.proofs.examine.own_answer.Kinds as own-answer-kinds
+use Rattle.unpacker.proofs.examine.own_answer.Reads as own-answer-reads
+use Rattle.unpacker.proofs.examine.counts_of.Kinds as counts-kinds
+use Rattle.unpacker.proofs.examine.counts_of.Reads as counts-reads
+use Rattle.unpacker.proofs.examine.delays_of.Kinds as delays-kinds
+use Rattle.unpacker.proofs.examine.delays_of.Reads as delays-reads
+use Rattle.unpacker.proofs.filling.fill_section.Kinds as fill-section-kinds
+use Rattle.unpacker.proofs.filling.fill_section.Reads as fill-section-reads
 use Rattle.unpacker.proofs.filling.clear.Kinds as clear-kinds
 use Rattle.unpacker.proofs.filling.clear.Reads as clear-reads
 use Rattle.unpacker.proofs.unpack.Kinds as unpack-kinds
@@ -37,6 +45,18 @@ unpack-settles κs a x y ws vs p q = (
     ),
   )),
 )
+
+pub fill-section-settles : Settles 2 fill-section-kinds.ps fill-section-kinds.r fill-section-reads.Post
+fill-section-settles κs a x y ws vs p q = (refl, (λ i. (tt, (tt, ((p ∙ sym q) i, tt)))))
+
+pub own-answer-settles : Settles 1 own-answer-kinds.ps own-answer-kinds.r own-answer-reads.Post
+own-answer-settles κs a x y ws vs p q = (p ∙ sym q, refl)
+
+pub counts-settle : Settles 1 counts-kinds.ps counts-kinds.r counts-reads.Post
+counts-settle κs a x y ws vs p q = (p ∙ sym q, refl)
+
+pub delays-settle : Settles 1 delays-kinds.ps delays-kinds.r delays-reads.Post
+delays-settle κs a x y ws vs p q = (p ∙ sym q, refl)
 
 pub clear-settles : Settles 1 clear-kinds.ps clear-kinds.r clear-reads.Post
 clear-settles κs a x y ws vs p q = (refl, (λ i. ((p ∙ sym q) i, tt)))

@@ -1,13 +1,13 @@
--- What the private functions of the unpacker promise one another; nothing here has to be believed.
+-- What the functions of the unpacker promise: the private ones one another, and the public ones beside `unpack`, which give its parts.
 -- Assumes nothing.
-use Prim.Native.Nat.{ℕ, zero, suc, _+_, _*_, _≤_, _<_}
+use Prim.Native.Nat.{ℕ, zero, suc, _+_, _*_, _/_, _≤_, _<_, min}
 use mathlib.Core.Bool.{Bool, _&&_}
 use mathlib.Core.List.{List, [], _∷_}
 use mathlib.Core.Option.{none, some}
 use mathlib.Core.Path.{_≡_}
 use lib.Dec.{leb, eqb}
 use lib.ListN.{length, getD, take, drop, set, replicate}
-use Rattle.base.specs.Pick.{pick}
+use Rattle.base.specs.Pick.{pick, within}
 use Rattle.base.specs.Tabulate.{tabulate}
 use Rattle.layout.specs.declared.Way.the-variants.{Reading}
 use Rattle.layout.specs.Layout.{layout}
@@ -98,6 +98,10 @@ written out at first row (suc k) = set (written out at first row k) (at + k) (ge
 unfoldable pub delaysIn : List ℕ → ℕ → List ℕ
 delaysIn header zero = []
 delaysIn header (suc n) = take 4 (drop 6 (converted Reading (layout 0) header))
+
+-- how many records of a section there are for a list of n numbers: as many as the header counts, and as the list has room for
+unfoldable pub fitting : List ℕ → ℕ → ℕ → ℕ
+fitting bytes section n = pick (within 1 5 section) (min (rows bytes section) (n / listed section)) 0
 
 -- n records of a section that begins at this byte, for a list that holds them
 pub record Filling (bytes : List ℕ) (section at n room : ℕ) : Type 0 where

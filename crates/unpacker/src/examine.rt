@@ -2,17 +2,20 @@
 // An answer whose number is 0 stands for none, and the next test is tried.
 use layout::Fault;
 use layout::Way;
+use layout::sizes::LONGEST;
 use table::Answer;
 ghost use mathlib.Core.Path.{_≡_};
 ghost use Prim.Native.Nat.{_<_};
+ghost use Rattle.base.specs.Tabulate.{tabulate};
 ghost use Rattle.layout.specs.Contracts.{wide};
 ghost use Rattle.table.specs.Answers.{accepted};
 ghost use Rattle.table.specs.Sections.{headerRow, rows, from, row};
+ghost use Rattle.table.specs.Unpack.{delaysOf};
 ghost use Rattle.unpacker.specs.Unpacking.{RowPlace, countIn, tableAnswer, lastAnswer, answerIn, answerOf, placesOf, examined};
 
 // The header row, the rows of each section, and the byte where each section begins; section 6 would begin where the table ends.
 pub struct Places {
-    pub header: [u64; 11],
+    pub header: [u64; LONGEST],
     pub counts: [usize; 6],
     pub starts: [usize; 7],
 }
@@ -35,8 +38,32 @@ pub(crate) fn examine(table: &[u8]) -> Examined
     }
 }
 
+// The same as an answer alone: 01's answers 1 to 4.
+pub fn own_answer(table: &[u8]) -> Answer
+    ensures { λ r. ⌜ r ≡ tableAnswer (now (table .entry)) ⌝ }
+{
+    let e = examine(table);
+    e.answer
+}
+
+// The rows of each section, as the header counts them; the header is one row.
+pub fn counts_of(table: &[u8]) -> [usize; 6]
+    ensures { λ r. ⌜ r ≡ tabulate (rows (now (table .entry))) 6 ⌝ }
+{
+    let places = places_in(table);
+    places.counts
+}
+
+// The delays of the header.
+pub fn delays_of(table: &[u8]) -> [u64; 4]
+    ensures { λ r. ⌜ r ≡ delaysOf (now (table .entry)) ⌝ }
+{
+    let row = layout::converted_row(Way::Reading, 0, header_of(table));
+    [row[6], row[7], row[8], row[9]]
+}
+
 // The header is one row; field s of it counts the rows of section s.
-fn count_in(header: [u64; 11], section: usize) -> usize
+fn count_in(header: [u64; LONGEST], section: usize) -> usize
     requires { ⌜ section < 6 ⌝ }
     ensures { λ r. ⌜ r ≡ countIn header section ⌝ }
 {
@@ -47,7 +74,7 @@ fn count_in(header: [u64; 11], section: usize) -> usize
 }
 
 // The header row, of the first 14 bytes alone: a table that is too long for a row to be read from it has one all the same.
-fn header_of(table: &[u8]) -> [u64; 11]
+fn header_of(table: &[u8]) -> [u64; LONGEST]
     ensures { λ r. ⌜ r ≡ wide (headerRow (now (table .entry))) ⌝ }
 {
     if 14 <= table.len() {
@@ -56,7 +83,7 @@ fn header_of(table: &[u8]) -> [u64; 11]
     layout::row_at(table, 0, 0)
 }
 
-fn places_in(table: &[u8]) -> Places
+pub(crate) fn places_in(table: &[u8]) -> Places
     ensures { λ r. ⌜ r ≡ placesOf (now (table .entry)) ⌝ }
 {
     let header = header_of(table);
@@ -176,7 +203,7 @@ fn answer_at(table: &[u8], section: usize, at: usize, i: usize) -> Answer
 }
 
 // The stored numbers of row i of a section that begins at byte `at`.
-pub(crate) fn raw_row(table: &[u8], section: usize, at: usize, i: usize) -> [u64; 11]
+pub(crate) fn raw_row(table: &[u8], section: usize, at: usize, i: usize) -> [u64; LONGEST]
     requires { ⌜ RowPlace (now table) section at i ⌝ }
     ensures { λ r. ⌜ r ≡ wide (row (now (table .entry)) section i) ⌝ }
 {

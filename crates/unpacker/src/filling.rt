@@ -2,11 +2,12 @@
 // `layout` turns the stored numbers of a row to what they mean.
 use crate::examine;
 use layout::Way;
+use layout::sizes::LONGEST;
 ghost use mathlib.Core.Path.{_≡_};
-ghost use Prim.Native.Nat.{_+_, _≤_, _*_};
+ghost use Prim.Native.Nat.{_+_, _≤_, _*_, min};
 ghost use lib.ListN.{length, replicate};
 ghost use Rattle.table.specs.Sections.{records, lent};
-ghost use Rattle.unpacker.specs.Unpacking.{Filling, Adding, written, delaysIn, Three, Two, ThreeFilled, TwoFilled};
+ghost use Rattle.unpacker.specs.Unpacking.{fitting, Filling, Adding, written, delaysIn, Three, Two, ThreeFilled, TwoFilled};
 
 pub(crate) fn fill_three(
     table: &[u8],
@@ -49,6 +50,34 @@ pub(crate) fn fill_two(
     fill(table, 5, starts[5], taken[5], hops);
 }
 
+// The records of a section, as many as the list has room for, and zeros; nothing but zeros where there is no such section.
+pub fn fill_section(table: &[u8], section: usize, out: &mut [u64])
+    ensures { λ _. ⌜ now (out .exit) ≡ lent (length (now (out .entry))) (records (now (table .entry)) section (fitting (now (table .entry)) section (length (now (out .entry))))) ⌝ }
+{
+    let places = examine::places_in(table);
+    let counts = places.counts;
+    let starts = places.starts;
+    if section < 1 {
+        clear(out);
+        return;
+    }
+    if 5 < section {
+        clear(out);
+        return;
+    }
+    let n = fewer(counts[section], out.len() / layout::numbers_in(section));
+    fill(table, section, starts[section], n, out);
+}
+
+fn fewer(a: usize, b: usize) -> usize
+    ensures { λ r. ⌜ r ≡ min a b ⌝ }
+{
+    if a <= b {
+        return a;
+    }
+    b
+}
+
 // The records of the first n rows of a section that begins at byte `at`, and zeros.
 fn fill(table: &[u8], section: usize, at: usize, n: usize, out: &mut [u64])
     requires { ⌜ Filling (now table) section at n (length (now out)) ⌝ }
@@ -74,7 +103,7 @@ fn add_record(table: &[u8], section: usize, at: usize, i: usize, out: &mut [u64]
 }
 
 // The delays of the header row, where there is one to take, and zeros.
-pub(crate) fn fill_delays(header: [u64; 11], n: usize, out: &mut [u64])
+pub(crate) fn fill_delays(header: [u64; LONGEST], n: usize, out: &mut [u64])
     requires { ⌜ n * 4 ≤ length (now out) ⌝ }
     ensures { λ _. ⌜ now (out .exit) ≡ lent (length (now (out .entry))) (delaysIn header n) ⌝ }
 {
@@ -87,7 +116,7 @@ pub(crate) fn fill_delays(header: [u64; 11], n: usize, out: &mut [u64])
 }
 
 // Numbers `first` to `first + n - 1` of a row, from place `at` of the list on.
-fn put_numbers(out: &mut [u64], at: usize, first: usize, n: usize, row: [u64; 11])
+fn put_numbers(out: &mut [u64], at: usize, first: usize, n: usize, row: [u64; LONGEST])
     requires { ⌜ (at + n ≤ length (now out)) × (first + n ≤ 11) ⌝ }
     ensures { λ _. ⌜ now (out .exit) ≡ written (now (out .entry)) at first row n ⌝ }
 {

@@ -1,6 +1,7 @@
 // The unpacker's answer: the table's own, and behind it 11 where a list is too short.
 // It tells as well which rows are taken of each section, and where they stand.
 use crate::examine;
+use layout::sizes::LONGEST;
 use table::Answer;
 ghost use mathlib.Core.Path.{_≡_};
 ghost use Prim.Native.Nat.{_<_, _*_};
@@ -13,7 +14,7 @@ ghost use Rattle.unpacker.specs.Unpacking.{Few, roomIn, judgedAnswer, ju
 // The unpacker's answer, the rows that are taken of each section, none on a refusal, and the byte where each section begins.
 pub struct Judged {
     pub answer: Answer,
-    pub header: [u64; 11],
+    pub header: [u64; LONGEST],
     pub taken: [usize; 6],
     pub starts: [usize; 7],
 }

@@ -1,10 +1,14 @@
 // The unpacker: the records of an accepted table as lists of numbers, and zeros behind them or on a refusal.
-// Bytes come in from anywhere: it answers for all of them. What it promises is `Unpacks` of crate `table`.
+// Bytes come in from anywhere: it answers for all of them. What it promises is `Unpacks` of crate `table`; the parts of it are public as well, for who keeps the lists in one place.
 mod examine;
 mod filling;
 mod judging;
 
+pub use examine::counts_of;
+pub use examine::delays_of;
+pub use examine::own_answer;
 pub use filling::clear;
+pub use filling::fill_section;
 use table::Unpacked;
 ghost use lib.ListN.{length};
 ghost use Rattle.table.specs.Unpack.{Unpacks};

@@ -1,0 +1,177 @@
+-- The records of a sheet, as they are read at their places: how many rows there are of each kind, and each record, which past the last row is one of zeros.
+-- Assumes nothing.
+use Prim.Native.Nat.{ℕ, _+_, _*_, _%_, _≤_, _<_, min}
+use mathlib.Core.Bool.{Bool}
+use mathlib.Core.List.{List}
+use mathlib.Core.Path.{_≡_, sym, ap, ap₂, _∙_}
+use native.Mathlib.Nat.{add-zero}
+use native.Mathlib.Omega.{arith}
+use lib.Dec.{eqb}
+use lib.ListN.{length, getD, List·getD-eq-default}
+use Rattle.base.proofs.TabulateLaws.{length-tabulate, tabulate-at}
+use Rattle.frame.proofs.TickLaws.{per-ms-is}
+use Rattle.layout.specs.Rows.{listed}
+use Rattle.layout.specs.Sizes.{place}
+use Rattle.layout.proofs.LayoutLaws.{listed-is}
+use Rattle.layout.proofs.SizeLaws.{most-are, places-are}
+use Rattle.network.specs.declared.EndSystem.{EndSystem}
+use Rattle.network.specs.declared.Vl.{Vl}
+use Rattle.network.specs.declared.Stream.{Stream}
+use Rattle.network.specs.declared.Port.{Port}
+use Rattle.network.specs.declared.Hop.{Hop}
+use Rattle.network.specs.declared.Parent.{Parent}
+use Rattle.network.specs.Network.{noSystem, noVl, noStream, noPort, noHop, systemAt, vlAt, streamAt, portAt, hopAt}
+use Rattle.table.specs.Decoded.{ticksAt, parentOf}
+use Rattle.sheet.specs.Sheet.{countOn, numberOn, systemOn, vlOn, streamOn, portOn, hopOn, networkOn}
+
+-- the first number of a record
+first-number : (l : List ℕ) (a : ℕ) → getD l (a + 0) 0 ≡ getD l a 0
+first-number l a = ap (λ (x : ℕ). getD l x 0) (add-zero a)
+
+module _ (sheet : List ℕ) where
+  -- ---- how many there are
+  systems-are : length (networkOn sheet .systems) ≡ countOn sheet 1
+  unfolding networkOn
+  systems-are = length-tabulate (systemOn sheet) (countOn sheet 1)
+
+  pub systems-on : (r : ℕ) → r ≡ min (getD sheet 4 0) 64 → (r ≡ length (networkOn sheet .systems)) × (r ≤ 64)
+  unfolding countOn
+  systems-on r e = (e ∙ ap (λ (n : ℕ). min (getD sheet 4 0) n) (sym (most-are .systems)) ∙ sym systems-are, omega (arith, e))
+
+  vls-are : length (networkOn sheet .vls) ≡ countOn sheet 2
+  unfolding networkOn
+  vls-are = length-tabulate (vlOn sheet) (countOn sheet 2)
+
+  pub vls-on : (r : ℕ) → r ≡ min (getD sheet 5 0) 256 → (r ≡ length (networkOn sheet .vls)) × (r ≤ 256)
+  unfolding countOn
+  vls-on r e = (e ∙ ap (λ (n : ℕ). min (getD sheet 5 0) n) (sym (most-are .vls)) ∙ sym vls-are, omega (arith, e))
+
+  streams-are : length (networkOn sheet .streams) ≡ countOn sheet 3
+  unfolding networkOn
+  streams-are = length-tabulate (streamOn sheet) (countOn sheet 3)
+
+  pub streams-on : (r : ℕ) → r ≡ min (getD sheet 6 0) 512 → (r ≡ length (networkOn sheet .streams)) × (r ≤ 512)
+  unfolding countOn
+  streams-on r e = (e ∙ ap (λ (n : ℕ). min (getD sheet 6 0) n) (sym (most-are .streams)) ∙ sym streams-are, omega (arith, e))
+
+  ports-are : length (networkOn sheet .ports) ≡ countOn sheet 4
+  unfolding networkOn
+  ports-are = length-tabulate (portOn sheet) (countOn sheet 4)
+
+  pub ports-on : (r : ℕ) → r ≡ min (getD sheet 7 0) 128 → (r ≡ length (networkOn sheet .ports)) × (r ≤ 128)
+  unfolding countOn
+  ports-on r e = (e ∙ ap (λ (n : ℕ). min (getD sheet 7 0) n) (sym (most-are .ports)) ∙ sym ports-are, omega (arith, e))
+
+  hops-are : length (networkOn sheet .hops) ≡ countOn sheet 5
+  unfolding networkOn
+  hops-are = length-tabulate (hopOn sheet) (countOn sheet 5)
+
+  pub hops-on : (r : ℕ) → r ≡ min (getD sheet 8 0) 1024 → (r ≡ length (networkOn sheet .hops)) × (r ≤ 1024)
+  unfolding countOn
+  hops-on r e = (e ∙ ap (λ (n : ℕ). min (getD sheet 8 0) n) (sym (most-are .hops)) ∙ sym hops-are, omega (arith, e))
+
+  -- ---- past the last row
+  pub system-past : (i : ℕ) → length (networkOn sheet .systems) ≤ i → noSystem ≡ systemAt (networkOn sheet) i
+  system-past i h = sym (List·getD-eq-default (networkOn sheet .systems) noSystem {n = i} h)
+
+  pub vl-past : (i : ℕ) → length (networkOn sheet .vls) ≤ i → noVl ≡ vlAt (networkOn sheet) i
+  vl-past i h = sym (List·getD-eq-default (networkOn sheet .vls) noVl {n = i} h)
+
+  pub stream-past : (i : ℕ) → length (networkOn sheet .streams) ≤ i → noStream ≡ streamAt (networkOn sheet) i
+  stream-past i h = sym (List·getD-eq-default (networkOn sheet .streams) noStream {n = i} h)
+
+  pub port-past : (i : ℕ) → length (networkOn sheet .ports) ≤ i → noPort ≡ portAt (networkOn sheet) i
+  port-past i h = sym (List·getD-eq-default (networkOn sheet .ports) noPort {n = i} h)
+
+  pub hop-past : (i : ℕ) → length (networkOn sheet .hops) ≤ i → noHop ≡ hopAt (networkOn sheet) i
+  hop-past i h = sym (List·getD-eq-default (networkOn sheet .hops) noHop {n = i} h)
+
+  -- ---- number k of record i, of records of m numbers from a place on
+  number : (s at m : ℕ) → place s ≡ at → listed s ≡ m → (i k : ℕ) → getD sheet (at + i * m + k) 0 ≡ numberOn sheet s i k
+  unfolding numberOn
+  number s at m p l i k = rw (p, l)
+
+  pub system-read : (e x : ℕ) → e < length (networkOn sheet .systems) → x ≡ ticksAt (getD sheet (9 + e * 1) 0)
+      → _≡_ {A = EndSystem} (record { perbyte = x }) (systemAt (networkOn sheet) e)
+  unfolding networkOn systemOn
+  system-read e x h is =
+      let same = is ∙ ap ticksAt (sym (first-number sheet (9 + e * 1)) ∙ number 1 9 1 (places-are .systems) (listed-is 1) e 0) in
+      (λ i. record { perbyte = same i }) ∙ sym (tabulate-at (systemOn sheet) (countOn sheet 1) e noSystem (omega (arith, systems-are)))
+
+  pub vl-read : (v : ℕ) → v < length (networkOn sheet .vls)
+      → _≡_ {A = Vl}
+      (record {
+        system = getD sheet (73 + v * 4) 0;
+        gap = 12500 * (getD sheet (73 + v * 4 + 1) 0 % 256);
+        sublinks = getD sheet (73 + v * 4 + 2) 0;
+        lmax = getD sheet (73 + v * 4 + 3) 0;
+      })
+      (vlAt (networkOn sheet) v)
+  unfolding networkOn vlOn
+  vl-read v h =
+      let here = number 2 73 4 (places-are .vls) (listed-is 2) v in
+      let system = sym (first-number sheet (73 + v * 4)) ∙ here 0 in
+      let gap = ap₂ (λ (a b : ℕ). a * (b % 256)) (sym per-ms-is) (here 1) in
+      let links = here 2 in
+      let lmax = here 3 in
+      (λ i. record { system = system i; gap = gap i; sublinks = links i; lmax = lmax i })
+      ∙ sym (tabulate-at (vlOn sheet) (countOn sheet 2) v noVl (omega (arith, vls-are)))
+
+  pub stream-read : (s : ℕ) → s < length (networkOn sheet .streams) → (x : Bool) → x ≡ eqb (getD sheet (1097 + s * 7 + 2) 0) 1
+      → _≡_ {A = Stream}
+      (record {
+        vl = getD sheet (1097 + s * 7) 0;
+        sublink = getD sheet (1097 + s * 7 + 1) 0;
+        sampling = x;
+        size = getD sheet (1097 + s * 7 + 3) 0;
+        least = getD sheet (1097 + s * 7 + 4) 0;
+        period = getD sheet (1097 + s * 7 + 5) 0;
+        jitter = getD sheet (1097 + s * 7 + 6) 0;
+      })
+      (streamAt (networkOn sheet) s)
+  unfolding networkOn streamOn
+  stream-read s h x is =
+      let here = number 3 1097 7 (places-are .streams) (listed-is 3) s in
+      let vl = sym (first-number sheet (1097 + s * 7)) ∙ here 0 in
+      let link = here 1 in
+      let sampling = is ∙ ap (λ (n : ℕ). eqb n 1) (here 2) in
+      let size = here 3 in
+      let least = here 4 in
+      let period = here 5 in
+      let jitter = here 6 in
+      (λ i. record {
+        vl = vl i;
+        sublink = link i;
+        sampling = sampling i;
+        size = size i;
+        least = least i;
+        period = period i;
+        jitter = jitter i;
+      })
+      ∙ sym (tabulate-at (streamOn sheet) (countOn sheet 3) s noStream (omega (arith, streams-are)))
+
+  pub port-read : (p x : ℕ) → p < length (networkOn sheet .ports) → x ≡ ticksAt (getD sheet (4681 + p * 3) 0)
+      → _≡_ {A = Port}
+      (record { perbyte = x; least = getD sheet (4681 + p * 3 + 1) 0; greatest = getD sheet (4681 + p * 3 + 2) 0 })
+      (portAt (networkOn sheet) p)
+  unfolding networkOn portOn
+  port-read p x h is =
+      let here = number 4 4681 3 (places-are .ports) (listed-is 4) p in
+      let speed = is ∙ ap ticksAt (sym (first-number sheet (4681 + p * 3)) ∙ here 0) in
+      let least = here 1 in
+      let greatest = here 2 in
+      (λ i. record { perbyte = speed i; least = least i; greatest = greatest i })
+      ∙ sym (tabulate-at (portOn sheet) (countOn sheet 4) p noPort (omega (arith, ports-are)))
+
+  pub hop-read : (h : ℕ) → h < length (networkOn sheet .hops) → (x : Parent) → x ≡ parentOf (getD sheet (5065 + h * 3 + 2) 0)
+      → _≡_ {A = Hop}
+      (record { vl = getD sheet (5065 + h * 3) 0; port = getD sheet (5065 + h * 3 + 1) 0; parent = x })
+      (hopAt (networkOn sheet) h)
+  unfolding networkOn hopOn
+  hop-read h row x is =
+      let here = number 5 5065 3 (places-are .hops) (listed-is 5) h in
+      let vl = sym (first-number sheet (5065 + h * 3)) ∙ here 0 in
+      let port = here 1 in
+      let parent = is ∙ ap parentOf (here 2) in
+      (λ i. record { vl = vl i; port = port i; parent = parent i })
+      ∙ sym (tabulate-at (hopOn sheet) (countOn sheet 5) h noHop (omega (arith, hops-are)))

@@ -1,0 +1,21 @@
+-- `sheet::delays_of` meets its contract: the delays are the first four numbers of the sheet.
+-- Assumes nothing.
+use mathlib.Core.Path.{refl}
+use Rattle.sheet.specs.Sheet.{networkOn}
+use borrow.Author.Needs.{needs}
+use Rattle.sheet.proofs.delays_of.Statement.{statement}
+use Rattle.sheet.proofs.delays_of.Tie as tie
+
+returns : tie.Need-returns
+unfolding networkOn
+returns c = refl
+
+pub delays-of-spec : {M : Type 1} → statement M
+delays-of-spec =
+    tie.close
+    (tie.spec
+    (λ c. search needs)
+    (λ c. search needs)
+    (λ c. search needs)
+    (λ c. search needs)
+    returns)

@@ -1,0 +1,12 @@
+-- `sheet::hops_in` meets its contract: as many hops as the sheet says, and at most 1,024.
+-- Assumes nothing.
+use Rattle.sheet.proofs.SheetLaws.{hops-on}
+use borrow.Author.Needs.{needs}
+use Rattle.sheet.proofs.hops_in.Statement.{statement}
+use Rattle.sheet.proofs.hops_in.Tie as tie
+
+returns : tie.Need-returns
+returns c = hops-on (c .before .before .args .net .now) (c .at-most .result) (c .at-most .ensures)
+
+pub hops-in-spec : {M : Type 1} → statement M
+hops-in-spec = tie.close (tie.spec (λ c. search needs) (λ c κs. search needs) returns)

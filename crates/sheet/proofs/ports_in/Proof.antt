@@ -1,0 +1,12 @@
+-- `sheet::ports_in` meets its contract: as many ports as the sheet says, and at most 128.
+-- Assumes nothing.
+use Rattle.sheet.proofs.SheetLaws.{ports-on}
+use borrow.Author.Needs.{needs}
+use Rattle.sheet.proofs.ports_in.Statement.{statement}
+use Rattle.sheet.proofs.ports_in.Tie as tie
+
+returns : tie.Need-returns
+returns c = ports-on (c .before .before .args .net .now) (c .at-most .result) (c .at-most .ensures)
+
+pub ports-in-spec : {M : Type 1} → statement M
+ports-in-spec = tie.close (tie.spec (λ c. search needs) (λ c κs. search needs) returns)

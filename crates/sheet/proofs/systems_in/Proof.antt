@@ -1,0 +1,12 @@
+-- `sheet::systems_in` meets its contract: as many end systems as the sheet says, and at most 64.
+-- Assumes nothing.
+use Rattle.sheet.proofs.SheetLaws.{systems-on}
+use borrow.Author.Needs.{needs}
+use Rattle.sheet.proofs.systems_in.Statement.{statement}
+use Rattle.sheet.proofs.systems_in.Tie as tie
+
+returns : tie.Need-returns
+returns c = systems-on (c .before .before .args .net .now) (c .at-most .result) (c .at-most .ensures)
+
+pub systems-in-spec : {M : Type 1} → statement M
+systems-in-spec = tie.close (tie.spec (λ c. search needs) (λ c κs. search needs) returns)

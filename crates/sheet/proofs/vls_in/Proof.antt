@@ -1,0 +1,12 @@
+-- `sheet::vls_in` meets its contract: as many VLs as the sheet says, and at most 256.
+-- Assumes nothing.
+use Rattle.sheet.proofs.SheetLaws.{vls-on}
+use borrow.Author.Needs.{needs}
+use Rattle.sheet.proofs.vls_in.Statement.{statement}
+use Rattle.sheet.proofs.vls_in.Tie as tie
+
+returns : tie.Need-returns
+returns c = vls-on (c .before .before .args .net .now) (c .at-most .result) (c .at-most .ensures)
+
+pub vls-in-spec : {M : Type 1} → statement M
+vls-in-spec = tie.close (tie.spec (λ c. search needs) (λ c κs. search needs) returns)
