@@ -21,14 +21,13 @@ use Rattle.table.specs.declared.Answer.{Answer}
 use Rattle.table.specs.Answers.{answer, accepted, firstGiven}
 use Rattle.table.specs.Sections.{headerRow, from, lent}
 use Rattle.table.specs.Unpack.{answer1, answer2, answer3, badRow, badSection, answerAtRow, answer4, left}
-use Rattle.table.specs.RoundTrip.{unpacked}
 use Rattle.table.specs.Read.{networkIn, badRefSection, answerAtReference, answer5, answer6, readAnswer}
 use Rattle.unpacker.proofs.ListLaws.{cleared-length}
 use Rattle.rows.specs.Rows.{rowsOf}
 use Rattle.rows.specs.Refusals.{sendsLate, lateSystem, tooManyRows, tooShort, endlessSubLink, endlessVl, endless, endlessPort}
 use Rattle.analysis.specs.declared.Analysed.{Analysed}
 use Rattle.analysis.specs.Analysis.{refusedAt, answer7, answer8, answer9, answer10, analysisAnswer, accepts, joined, rowsLeft, rowsGiven, Analyses}
-use Rattle.analysis.specs.Sheet.{listsOn, networkOn, Good}
+use Rattle.sheet.specs.Sheet.{networkOn, Good}
 use Rattle.analysis.specs.Computing.{First, Waits, Queues, Figures}
 use Rattle.analysis.specs.Placing.{Known}
 use Rattle.analysis.specs.Judging.{analysed, judged, Judged}
@@ -223,9 +222,9 @@ module _ (bytes : List ℕ) where
           record { answer-is = leaves .0; count-is = leaves .1; rows-are = leaves .2 }
 
       pub table-judged :
-          (sheet cleared : List ℕ) → readAnswer bytes ≡ accepted → listsOn sheet ≡ unpacked bytes → cleared ≡ replicate room 0
+          (sheet cleared : List ℕ) → readAnswer bytes ≡ accepted → networkOn sheet ≡ networkIn bytes → cleared ≡ replicate room 0
           → Judged (networkOn sheet) (length cleared) r result → Analyses bytes room r result
-      unfolding rowsGiven rowsLeft accepts networkOn networkIn
+      unfolding rowsGiven rowsLeft accepts
       table-judged sheet cleared e same zero j =
           let given = analysis-judged e in
           let k = rw (same, cleared-length cleared room zero) at j in

@@ -8,9 +8,8 @@ pub mod QueueLaws
 pub mod HopLaws
 pub mod PortFlowLaws
 pub mod FigureLaws
-pub mod SheetLaws
+pub mod RangeLaws
 pub mod PutLaws
-pub mod LoadLaws
 pub mod RowLaws
 pub mod JoinLaws
 pub mod JudgeLaws

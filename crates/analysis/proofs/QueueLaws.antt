@@ -23,9 +23,9 @@ use Rattle.station.specs.Flat.{flowsIn}
 use Rattle.network.specs.Views.{streamsOn}
 use Rattle.rows.specs.Queues.{queueFlow, queueFlows, queueLength, queueFigure}
 use Rattle.rows.specs.Refusals.{endlessSubLink}
-use Rattle.analysis.specs.declared.sheet.Delays.{Delays}
+use Rattle.sheet.specs.declared.Delays.{Delays}
 use Rattle.analysis.specs.declared.flows.Outcome.{Outcome}
-use Rattle.analysis.specs.Reading.{delaysIn}
+use Rattle.sheet.specs.Sheet.{delaysIn}
 use Rattle.analysis.specs.Computing.{QueuesOf, Queues}
 use Rattle.analysis.specs.Gathering.{Gathered, Found}
 use Rattle.analysis.proofs.GatherLaws.{Gathers}

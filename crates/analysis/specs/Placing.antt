@@ -12,7 +12,7 @@ use Rattle.rows.specs.Ports.{figureOf}
 use Rattle.rows.specs.Rows.{rowsTo, rowsOf}
 use Rattle.table.specs.Sections.{lent}
 use Rattle.analysis.specs.Analysis.{joined}
-use Rattle.analysis.specs.Sheet.{networkOn, Good}
+use Rattle.sheet.specs.Sheet.{networkOn, Good}
 use Rattle.analysis.specs.Computing.{Waits, Queues, Figures, Leaves}
 
 -- the numbers of a row at a place of the lent result

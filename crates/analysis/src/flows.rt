@@ -1,5 +1,6 @@
 // The flows of a queue or a port, three numbers a flow in one lent list, and what the station says of them.
 // A list is lent and not handed over, so that a port of few flows costs no more than those.
+use layout::sizes::MOST_HOPS;
 use station::Answer;
 use station::Flow;
 ghost use mathlib.Core.List.{[], _∷_, _++_};
@@ -11,8 +12,8 @@ ghost use Rattle.station.specs.Offered.{offered};
 ghost use Rattle.station.specs.Flat.{flowsIn};
 ghost use Rattle.analysis.specs.Gathering.{Found};
 
-// Three numbers for each of 1,024 flows.
-pub const FLOWS: usize = 3_072;
+// Three numbers for each of the most flows that a queue or a port has: those of all streams, or of all hops.
+pub const FLOWS: usize = MOST_HOPS * 3;
 
 // What the station says of flows: that they have no busy length, or their figure.
 pub struct Outcome {

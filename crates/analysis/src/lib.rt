@@ -3,11 +3,9 @@
 mod answers;
 mod flows;
 mod links;
-mod loading;
 mod ports;
 mod queues;
 mod results;
-mod sheet;
 
 pub use answers::analyse;
 use table::Answer;

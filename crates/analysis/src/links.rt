@@ -1,17 +1,17 @@
 // A frame on an end system's link, and the mux wait: what the VLs of one end system cost one another.
 // Gives 01's answer 7.
-use crate::sheet;
-use crate::sheet::SHEET;
 use frame::Frame;
 use frame::Reply;
 use frame::Tick;
+use layout::sizes::MOST_VLS;
+use layout::sizes::SHEET;
 ghost use mathlib.Core.Path.{_≡_};
 ghost use Prim.Native.Nat.{_<_, _≤_, _-_};
 ghost use lib.ListN.{length};
 ghost use Rattle.frame.specs.Frame.{largestLine};
 ghost use Rattle.rows.specs.Links.{sendMost, sendLine, sendSpread, sendSum, muxWait};
 ghost use Rattle.rows.specs.Refusals.{sendsLate};
-ghost use Rattle.analysis.specs.Sheet.{networkOn, Good};
+ghost use Rattle.sheet.specs.Sheet.{networkOn, Good};
 ghost use Rattle.analysis.specs.Computing.{First, sumWithout, Waits};
 
 // The most bytes that a frame occupies on the line.
@@ -101,11 +101,11 @@ fn mux_wait(net: &[u64; SHEET], v: usize) -> u64
 }
 
 // The mux wait of each VL.
-pub fn mux_waits(net: &[u64; SHEET]) -> [u64; 256]
+pub fn mux_waits(net: &[u64; SHEET]) -> [u64; MOST_VLS]
     requires { ⌜ Good (now net) ⌝ }
     ensures { λ r. ⌜ Waits (networkOn (now (net .entry))) r ⌝ }
 {
-    let mut waits = [0u64; 256];
+    let mut waits = [0u64; MOST_VLS];
     let n = sheet::vls_in(net);
     let mut v = 0;
     while v < n {

@@ -4,9 +4,11 @@ use crate::flows;
 use crate::flows::FLOWS;
 use crate::links;
 use crate::links::less;
-use crate::sheet;
-use crate::sheet::SHEET;
 use frame::Frame;
+use layout::sizes::MOST_HOPS;
+use layout::sizes::MOST_PORTS;
+use layout::sizes::MOST_VLS;
+use layout::sizes::SHEET;
 use network::Parent;
 use station::Flow;
 ghost use mathlib.Core.Path.{_≡_};
@@ -16,7 +18,7 @@ ghost use Rattle.network.specs.Network.{hopAt};
 ghost use Rattle.rows.specs.Links.{hopMost, hopLine, hopSpread};
 ghost use Rattle.rows.specs.Ports.{portFlows, jitterOf};
 ghost use Rattle.rows.specs.Refusals.{endless};
-ghost use Rattle.analysis.specs.Sheet.{networkOn, Good};
+ghost use Rattle.sheet.specs.Sheet.{networkOn, Good};
 ghost use Rattle.analysis.specs.Computing.{First, Waits, Figures, Jitters};
 ghost use Rattle.analysis.specs.Gathering.{Gathered};
 
@@ -54,9 +56,9 @@ fn hop_spread(net: &[u64; SHEET], h: usize) -> u64
 // The jitter of hop h, where those of the hops on lower ports and the figures of lower ports are known.
 fn hop_jitter(
     net: &[u64; SHEET],
-    waits: &[u64; 256],
-    figures: &[u64; 128],
-    jitters: &[u64; 1_024],
+    waits: &[u64; MOST_VLS],
+    figures: &[u64; MOST_PORTS],
+    jitters: &[u64; MOST_HOPS],
     h: usize,
 ) -> u64
     requires { ⌜ Good (now net) × (h < length (networkOn (now net) .hops)) × Waits (networkOn (now net)) (now waits) × Figures (networkOn (now net)) (now figures) (hopAt (networkOn (now net)) h .port) × Jitters (networkOn (now net)) (now jitters) (hopAt (networkOn (now net)) h .port) ⌝ }
@@ -77,10 +79,10 @@ fn hop_jitter(
 // The flows of port p: how many they are; notes the jitters of the hops on it.
 fn port_flows(
     net: &[u64; SHEET],
-    waits: &[u64; 256],
-    figures: &[u64; 128],
+    waits: &[u64; MOST_VLS],
+    figures: &[u64; MOST_PORTS],
     p: usize,
-    jitters: &mut [u64; 1_024],
+    jitters: &mut [u64; MOST_HOPS],
     flows: &mut [u64; FLOWS],
 ) -> usize
     requires { ⌜ Good (now net) × Waits (networkOn (now net)) (now waits) × Figures (networkOn (now net)) (now figures) p × Jitters (networkOn (now net)) (now jitters) p × (length (now flows) ≡ 3072) ⌝ }
@@ -109,11 +111,15 @@ fn port_flows(
 }
 
 // 10: the first port that has no busy length, or their number; notes the figures of the ports before it.
-pub fn all_ports(net: &[u64; SHEET], waits: &[u64; 256], figures: &mut [u64; 128]) -> usize
+pub fn all_ports(
+    net: &[u64; SHEET],
+    waits: &[u64; MOST_VLS],
+    figures: &mut [u64; MOST_PORTS],
+) -> usize
     requires { ⌜ Good (now net) × Waits (networkOn (now net)) (now waits) × (length (now figures) ≡ 128) ⌝ }
     ensures { λ r. ⌜ First (endless (networkOn (now (net .entry)))) (length (networkOn (now (net .entry)) .ports)) r × Figures (networkOn (now (net .entry))) (now (figures .exit)) r ⌝ }
 {
-    let mut jitters = [0u64; 1_024];
+    let mut jitters = [0u64; MOST_HOPS];
     let mut flows = [0u64; FLOWS];
     let n = sheet::ports_in(net);
     let mut p = 0;

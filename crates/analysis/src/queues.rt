@@ -4,9 +4,10 @@ use crate::flows;
 use crate::flows::FLOWS;
 use crate::flows::Outcome;
 use crate::links::less;
-use crate::sheet;
-use crate::sheet::SHEET;
 use frame::Reply;
+use layout::sizes::MOST_SUBLINKS;
+use layout::sizes::QUEUES;
+use layout::sizes::SHEET;
 use station::Flow;
 ghost use mathlib.Core.Path.{_≡_};
 ghost use mathlib.Core.Bool.{true, false, not};
@@ -17,7 +18,7 @@ ghost use Rattle.frame.specs.Packets as rule;
 ghost use Rattle.network.specs.Network.{vlAt};
 ghost use Rattle.rows.specs.Queues.{queueFlow, queueFlows, queueLength, queueFigure};
 ghost use Rattle.rows.specs.Refusals.{endlessSubLink};
-ghost use Rattle.analysis.specs.Sheet.{networkOn, Good};
+ghost use Rattle.sheet.specs.Sheet.{networkOn, Good};
 ghost use Rattle.analysis.specs.Computing.{First, QueuesOf, Queues};
 ghost use Rattle.analysis.specs.Gathering.{Gathered};
 
@@ -87,7 +88,7 @@ fn vl_queues(
     net: &[u64; SHEET],
     v: usize,
     flows: &mut [u64; FLOWS],
-    queues: &mut [u64; 1_024],
+    queues: &mut [u64; QUEUES],
 ) -> bool
     requires { ⌜ Good (now net) × (v < length (networkOn (now net) .vls)) × (length (now flows) ≡ 3072) × (length (now queues) ≡ 1024) ⌝ }
     ensures { λ r. ⌜ (r ≡ isSome (endlessSubLink (networkOn (now (net .entry))) v)) × (r ≡ false → QueuesOf (networkOn (now (net .entry))) (now (queues .exit)) v (vlAt (networkOn (now (net .entry))) v .sublinks)) × ((i : ℕ) → i < v * 4 → getD (now (queues .exit)) i 0 ≡ getD (now (queues .entry)) i 0) × (length (now (queues .exit)) ≡ 1024) × (length (now (flows .exit)) ≡ 3072) ⌝ }
@@ -101,14 +102,14 @@ fn vl_queues(
         if endless {
             return true;
         }
-        queues[v * 4 + k] = o.figure;
+        queues[v * MOST_SUBLINKS + k] = o.figure;
         k += 1;
     }
     false
 }
 
 // 9: the first VL with a queue that has no busy length, or their number.
-pub fn all_queues(net: &[u64; SHEET], queues: &mut [u64; 1_024]) -> usize
+pub fn all_queues(net: &[u64; SHEET], queues: &mut [u64; QUEUES]) -> usize
     requires { ⌜ Good (now net) × (length (now queues) ≡ 1024) ⌝ }
     ensures { λ r. ⌜ First (λ v. isSome (endlessSubLink (networkOn (now (net .entry))) v)) (length (networkOn (now (net .entry)) .vls)) r × Queues (networkOn (now (net .entry))) (now (queues .exit)) r ⌝ }
 {

@@ -3,8 +3,12 @@
 use crate::links;
 use crate::ports;
 use crate::queues;
-use crate::sheet;
-use crate::sheet::SHEET;
+use layout::sizes::MOST_HOPS;
+use layout::sizes::MOST_PORTS;
+use layout::sizes::MOST_SUBLINKS;
+use layout::sizes::MOST_VLS;
+use layout::sizes::QUEUES;
+use layout::sizes::SHEET;
 use network::Parent;
 ghost use mathlib.Core.Path.{_≡_};
 ghost use Prim.Native.Nat.{_<_, _≤_, _+_, _*_};
@@ -14,18 +18,18 @@ ghost use Rattle.table.specs.Sections.{lent};
 ghost use Rattle.network.specs.Views.{leavesOf, route};
 ghost use Rattle.rows.specs.Rows.{queueOf, worst, best, rowOf, rowsTo, rowsOf};
 ghost use Rattle.analysis.specs.Analysis.{joined};
-ghost use Rattle.analysis.specs.Sheet.{networkOn, Good};
+ghost use Rattle.sheet.specs.Sheet.{networkOn, Good};
 ghost use Rattle.analysis.specs.Computing.{Queues, Figures, Leaves};
 ghost use Rattle.analysis.specs.Placing.{Known, Putting, Put, Room, putAt, routeMost, routeLeast};
 
 // ---- the destinations
 
 // Whether each hop is nobody's parent.
-pub fn leaves(net: &[u64; SHEET]) -> [bool; 1_024]
+pub fn leaves(net: &[u64; SHEET]) -> [bool; MOST_HOPS]
     requires { ⌜ Good (now net) ⌝ }
     ensures { λ r. ⌜ Leaves (networkOn (now (net .entry))) r ⌝ }
 {
-    let mut leaves = [true; 1_024];
+    let mut leaves = [true; MOST_HOPS];
     let n = sheet::hops_in(net);
     let mut h = 0;
     while h < n {
@@ -40,7 +44,7 @@ pub fn leaves(net: &[u64; SHEET]) -> [bool; 1_024]
 }
 
 // The destinations of VL v.
-fn leaves_of(net: &[u64; SHEET], leaves: &[bool; 1_024], v: usize) -> usize
+fn leaves_of(net: &[u64; SHEET], leaves: &[bool; MOST_HOPS], v: usize) -> usize
     requires { ⌜ Good (now net) × Leaves (networkOn (now net)) (now leaves) ⌝ }
     ensures { λ r. ⌜ (r ≡ length (leavesOf (networkOn (now (net .entry))) v)) × (r ≤ 1024) ⌝ }
 {
@@ -60,7 +64,7 @@ fn leaves_of(net: &[u64; SHEET], leaves: &[bool; 1_024], v: usize) -> usize
 }
 
 // How many rows there are.
-pub fn row_count(net: &[u64; SHEET], leaves: &[bool; 1_024]) -> usize
+pub fn row_count(net: &[u64; SHEET], leaves: &[bool; MOST_HOPS]) -> usize
     requires { ⌜ Good (now net) × Leaves (networkOn (now net)) (now leaves) ⌝ }
     ensures { λ r. ⌜ (r ≡ length (rowsOf (networkOn (now (net .entry))))) × (r ≤ 524288) ⌝ }
 {
@@ -78,7 +82,7 @@ pub fn row_count(net: &[u64; SHEET], leaves: &[bool; 1_024]) -> usize
 // ---- a row
 
 // What the route of hop h adds at most: the greatest switch delay and the figure of each port.
-fn route_most(net: &[u64; SHEET], figures: &[u64; 128], h: usize) -> u64
+fn route_most(net: &[u64; SHEET], figures: &[u64; MOST_PORTS], h: usize) -> u64
     requires { ⌜ Good (now net) × (h < length (networkOn (now net) .hops)) × Figures (networkOn (now net)) (now figures) (length (networkOn (now net) .ports)) ⌝ }
     ensures { λ r. ⌜ (r ≡ routeMost (networkOn (now (net .entry))) (route (networkOn (now (net .entry))) h)) × (r ≤ 1000010000) ⌝ }
 {
@@ -123,20 +127,20 @@ fn route_least(net: &[u64; SHEET], h: usize) -> u64
 }
 
 // The queue figure of stream s's sub-link.
-fn queue_of(net: &[u64; SHEET], queues: &[u64; 1_024], s: usize) -> u64
+fn queue_of(net: &[u64; SHEET], queues: &[u64; QUEUES], s: usize) -> u64
     requires { ⌜ Good (now net) × (s < length (networkOn (now net) .streams)) × Queues (networkOn (now net)) (now queues) (length (networkOn (now net) .vls)) ⌝ }
     ensures { λ r. ⌜ (r ≡ queueOf (networkOn (now (net .entry))) s) × (r ≤ 125000000) ⌝ }
 {
     let stream = sheet::stream_at(net, s);
-    let at = stream.vl * 4 + stream.sublink;
+    let at = stream.vl * MOST_SUBLINKS + stream.sublink;
     queues[at]
 }
 
 fn worst_of(
     net: &[u64; SHEET],
-    waits: &[u64; 256],
-    queues: &[u64; 1_024],
-    figures: &[u64; 128],
+    waits: &[u64; MOST_VLS],
+    queues: &[u64; QUEUES],
+    figures: &[u64; MOST_PORTS],
     s: usize,
     h: usize,
 ) -> u64
@@ -164,9 +168,9 @@ fn best_of(net: &[u64; SHEET], s: usize, h: usize) -> u64
 // Stream, hop, queue, worst, best, jitter.
 fn row_of(
     net: &[u64; SHEET],
-    waits: &[u64; 256],
-    queues: &[u64; 1_024],
-    figures: &[u64; 128],
+    waits: &[u64; MOST_VLS],
+    queues: &[u64; QUEUES],
+    figures: &[u64; MOST_PORTS],
     s: usize,
     h: usize,
 ) -> [u64; 6]
@@ -197,10 +201,10 @@ fn put_row(result: &mut [u64], at: usize, row: [u64; 6])
 // The rows of stream s, from place `at` on: the place behind them.
 fn put_stream(
     net: &[u64; SHEET],
-    waits: &[u64; 256],
-    queues: &[u64; 1_024],
-    figures: &[u64; 128],
-    leaves: &[bool; 1_024],
+    waits: &[u64; MOST_VLS],
+    queues: &[u64; QUEUES],
+    figures: &[u64; MOST_PORTS],
+    leaves: &[bool; MOST_HOPS],
     s: usize,
     at: usize,
     result: &mut [u64],
@@ -228,10 +232,10 @@ fn put_stream(
 // All rows; the lent result is zero before, and long enough.
 pub fn put_rows(
     net: &[u64; SHEET],
-    waits: &[u64; 256],
-    queues: &[u64; 1_024],
-    figures: &[u64; 128],
-    leaves: &[bool; 1_024],
+    waits: &[u64; MOST_VLS],
+    queues: &[u64; QUEUES],
+    figures: &[u64; MOST_PORTS],
+    leaves: &[bool; MOST_HOPS],
     result: &mut [u64],
 )
     requires { ⌜ Known (now net) (now waits) (now queues) (now figures) × Leaves (networkOn (now net)) (now leaves) × Room (networkOn (now net)) (now result) ⌝ }

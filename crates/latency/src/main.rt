@@ -1,6 +1,7 @@
 // Reads a packed table from standard input and writes its result rows, or the word refused with number, section and row.
 // All that matters is in `analysis`; here is what prints: each line is proved to be its numbers in decimal. A read or a write that fails is
 // said on standard error, and nothing is written after it.
+use layout::sizes;
 ghost use mathlib.Core.Path.{_≡_};
 ghost use Prim.Native.Nat.{_+_, _*_, _≤_};
 ghost use lib.ListN.{length, take, drop};
@@ -10,12 +11,10 @@ use console::Input;
 use table::Answer;
 
 // One byte more than the longest table, so that a longer one is seen to be too long.
-const MOST_BYTES: usize = 12_111;
-
-const MOST_ROWS: usize = 1_024;
+const MOST_BYTES: usize = sizes::TABLE + 1;
 
 // Six numbers a row.
-const MOST_NUMBERS: usize = 6_144;
+const MOST_NUMBERS: usize = 6 * sizes::MOST_ROWS;
 
 // The longest line: six numbers of at most twenty digits, five spaces and the line's end.
 const LINE: usize = 126;
@@ -45,7 +44,7 @@ fn write_refusal(answer: Answer) -> bool {
 }
 
 fn write_row(numbers: &[u64; MOST_NUMBERS], i: usize) -> bool {
-    if MOST_ROWS <= i {
+    if sizes::MOST_ROWS <= i {
         return false;
     }
     let mut line = [0u8; LINE];

@@ -1,7 +1,8 @@
 -- The sizes of `layout::sizes` are those that the definitions say by the section: computed once, here. Limits and places stand as numerals in no other law.
 -- Assumes nothing.
-use Prim.Native.Nat.{ℕ, _*_}
+use Prim.Native.Nat.{ℕ, _-_, _<_}
 use mathlib.Core.Path.{_≡_, refl}
+use native.Mathlib.Omega.{arith}
 use Rattle.base.specs.Tabulate.{total}
 use Rattle.layout.specs.Layout.{header, endSystem, vl, stream, port, hop, layout, widths, size}
 use Rattle.layout.specs.Rows.{listed}
@@ -29,6 +30,27 @@ pub record Places : Type 0 where
 pub places-are : Places
 unfolding place capacity most greatestOf header listed
 places-are = record { systems = refl; vls = refl; streams = refl; ports = refl; hops = refl; end = refl }
+
+-- what is between two places is the capacity of the section there
+abbrev Between : ℕ → ℕ → ℕ → Type 0
+Between s a b = (s < 6) × (b - a ≡ capacity s)
+
+pub record Sizes : Type 0 where
+  pub systems : Between 1 9 73
+  pub vls : Between 2 73 1097
+  pub streams : Between 3 1097 4681
+  pub ports : Between 4 4681 5065
+  pub hops : Between 5 5065 8137
+
+pub sizes-are : Sizes
+unfolding capacity most greatestOf header listed
+sizes-are = record {
+  systems = (omega arith, refl);
+  vls = (omega arith, refl);
+  streams = (omega arith, refl);
+  ports = (omega arith, refl);
+  hops = (omega arith, refl);
+}
 
 -- the longest table
 pub longest-table : mostBytes 5 ≡ 12110

@@ -29,6 +29,11 @@ pub const MOST_HOPS: usize = 1_024;
 // The most sub-links of a VL.
 pub const MOST_SUBLINKS: usize = 4;
 
+// The most rows of a result, and the queue figures of all VLs: one for each sub-link that a VL may have.
+pub const MOST_ROWS: usize = 1_024;
+
+pub const QUEUES: usize = MOST_VLS * MOST_SUBLINKS;
+
 // The numbers of each list, where it holds the most records.
 pub const DELAYS: usize = 4;
 

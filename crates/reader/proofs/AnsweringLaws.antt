@@ -2,10 +2,10 @@
 -- Assumes nothing.
 use Prim.Native.Nat.{ℕ, zero, suc, _≤_, _<_}
 use mathlib.Core.Bool.{Bool, true, false, true≢false, false≢true, not}
-use mathlib.Core.List.{List, [], _∷_}
+use mathlib.Core.List.{[], _∷_}
 use mathlib.Core.Option.{Option, none, some}
 use mathlib.Core.Path.{_≡_, refl, sym, ap, _∙_}
-use native.Mathlib.Decide.{decLt}
+use native.Mathlib.Decide.{decLt, ℕ-discrete}
 use native.Mathlib.Omega.{arith}
 use borrow.Author.Tests.{lt-ltb}
 use lib.Dec.{ltb}
@@ -14,44 +14,34 @@ use Rattle.base.specs.Tests.{isSome, numberOr0}
 use Rattle.base.proofs.LeastLaws.{least-is, least-none}
 use Rattle.base.proofs.TestLaws.{none-is}
 use Rattle.network.specs.Network.{Network}
+use Rattle.network.specs.Ranges.{Ranges}
 use Rattle.network.specs.References.{refFault, namingRows, badReference, oneSample, badSample}
 use Rattle.network.proofs.ReferenceTests.{stream-names-vl-was}
 use Rattle.network.proofs.ReferenceLaws.{stream-row-was, no-bad-row, no-bad-row-was}
 use Rattle.network.proofs.TestsAre.{rows-are}
 use Rattle.table.specs.declared.Answer.{Answer}
 use Rattle.table.specs.Answers.{answer, accepted, firstGiven}
-use Rattle.table.specs.Write.{Lists}
-use Rattle.table.specs.Decoded.{networkOf}
 use Rattle.table.specs.Read.{badRefSection, answerAtReference, answer5, answer6}
-use Rattle.reader.specs.Referring.{testedRows, refusalAt, rowAnswer, sectionAnswer, sampleAnswer, Sized, Named}
-use Rattle.reader.proofs.ReferringLaws.{vls-long, streams-long, hops-long, vl-of-stream}
+use Rattle.reader.specs.Referring.{refusalAt, rowAnswer, sectionAnswer, sampleAnswer, Named}
 
 -- ---- the rows that are tested
-pub rows-tested : (ls : Lists) (s : ℕ) → namingRows (networkOf ls) s ≡ testedRows (ls .vls) (ls .streams) (ls .hops) s
-rows-tested ls s = rows-are (networkOf ls) s ∙ rw (vls-long ls, streams-long ls, hops-long ls)
-
 -- end systems and ports have none, nor has a section that does not exist
-pub none-tested : (vls streams hops : List ℕ) (s : ℕ) → (s ≡ 2 → ⊥) → (s ≡ 3 → ⊥) → (s ≡ 5 → ⊥) → testedRows vls streams hops s ≡ 0
-none-tested vls streams hops zero a b c = refl
-none-tested vls streams hops (suc zero) a b c = refl
-none-tested vls streams hops (suc (suc zero)) a b c = absurd (a refl)
-none-tested vls streams hops (suc (suc (suc zero))) a b c = absurd (b refl)
-none-tested vls streams hops (suc (suc (suc (suc zero)))) a b c = refl
-none-tested vls streams hops (suc (suc (suc (suc (suc zero))))) a b c = absurd (c refl)
-none-tested vls streams hops (suc (suc (suc (suc (suc (suc s)))))) a b c = refl
-
-pub tested-same : (vls streams hops : List ℕ) (s t : ℕ) → s ≡ t → testedRows vls streams hops s ≡ testedRows vls streams hops t
-tested-same vls streams hops s t e = ap (testedRows vls streams hops) e
+pub none-named : (net : Network) (s : ℕ) → (s ≡ 2 → ⊥) → (s ≡ 3 → ⊥) → (s ≡ 5 → ⊥) → namingRows net s ≡ 0
+unfolding namingRows
+none-named net zero a b c = refl
+none-named net (suc zero) a b c = refl
+none-named net (suc (suc zero)) a b c = absurd (a refl)
+none-named net (suc (suc (suc zero))) a b c = absurd (b refl)
+none-named net (suc (suc (suc (suc zero)))) a b c = refl
+none-named net (suc (suc (suc (suc (suc zero))))) a b c = absurd (c refl)
+none-named net (suc (suc (suc (suc (suc (suc s)))))) a b c = refl
 
 -- a row that is tested is of section 5 where it is of neither 2 nor 3
-pub last-tested : (vls streams hops : List ℕ) (s i : ℕ) → i < testedRows vls streams hops s → (s ≡ 2 → ⊥) → (s ≡ 3 → ⊥) → s ≡ 5
-last-tested vls streams hops zero i h a b = absurd (omega arith)
-last-tested vls streams hops (suc zero) i h a b = absurd (omega arith)
-last-tested vls streams hops (suc (suc zero)) i h a b = absurd (a refl)
-last-tested vls streams hops (suc (suc (suc zero))) i h a b = absurd (b refl)
-last-tested vls streams hops (suc (suc (suc (suc zero)))) i h a b = absurd (omega arith)
-last-tested vls streams hops (suc (suc (suc (suc (suc zero))))) i h a b = refl
-last-tested vls streams hops (suc (suc (suc (suc (suc (suc s)))))) i h a b = absurd (omega arith)
+pub last-named : (net : Network) (s i : ℕ) → i < namingRows net s → (s ≡ 2 → ⊥) → (s ≡ 3 → ⊥) → s ≡ 5
+last-named net s i h a b = elim (ℕ-discrete s 5) [
+  | yes e ↦ e
+  | no other ↦ absurd (omega (arith, none-named net s a b other))
+]
 
 -- ---- whether an answer refuses, of an answer that is known
 pub met : (x y : Answer) (t u : Bool) → x ≡ y → t ≡ ltb 0 (x .number) → t ≡ u → ltb 0 (y .number) ≡ u
@@ -165,11 +155,10 @@ module _ (net : Network) where
       rw (here, sampleAnswer)
 
 -- where no stream has a bad reference each names a VL
-pub named-from : (ls : Lists) → Sized (ls .vls) (ls .streams) → badReference (networkOf ls) 3 ≡ none → Named (ls .vls) (ls .streams)
-named-from ls sized e = record {
-  sized = sized;
+pub named-from : (net : Network) → Ranges net → badReference net 3 ≡ none → Named net
+named-from net ranges e = record {
+  ranges = ranges;
   vl = λ s h.
-      let good = no-bad-row-was (networkOf ls) 3 s e (omega (arith, rows-tested ls 3)) in
-      let low = stream-names-vl-was (networkOf ls) s (stream-row-was (networkOf ls) s good .0) in
-      omega (arith, vl-of-stream ls s h, vls-long ls);
+      let good = no-bad-row-was net 3 s e (omega (arith, rows-are net 3)) in
+      stream-names-vl-was net s (stream-row-was net s good .0);
 }

@@ -1,13 +1,13 @@
--- The tests of a hop together, as its row's answer; and the sampling rule over the lists of numbers.
+-- The tests of a hop together, as its row's answer; and the sampling rule.
 -- Assumes nothing.
-use Prim.Native.Nat.{ℕ, suc, _+_, _-_, _*_, _/_, _≤_, _<_}
-use mathlib.Core.Bool.{Bool, true, false, not, _||_}
-use mathlib.Core.Option.{some, Option·none-ne-some, Option·some-injective}
-use mathlib.Core.Path.{_≡_, refl, sym, ap, ap₂, _∙_}
+use Prim.Native.Nat.{ℕ, suc, _-_, _≤_, _<_}
+use mathlib.Core.Bool.{Bool, true, false, not}
+use mathlib.Core.Option.{none, some, Option·none-ne-some, Option·some-injective}
+use mathlib.Core.Path.{_≡_, refl, sym, ap, _∙_}
 use native.Mathlib.Omega.{arith}
-use borrow.Author.Tests.{lt-ltb, le-ltb, eq-eqb, ne-eqb}
-use lib.Dec.{leb, ltb, eqb}
-use lib.ListN.{length, getD}
+use borrow.Author.Tests.{lt-ltb, le-ltb}
+use lib.Dec.{leb}
+use lib.ListN.{length}
 use Rattle.base.specs.Pick.{pick}
 use Rattle.base.specs.Said.{ruled}
 use Rattle.frame.specs.Packets.{packets}
@@ -17,17 +17,14 @@ use Rattle.frame.specs.declared.Reply.{Reply}
 use Rattle.frame.specs.declared.Reply.the-variants.{Value, Refused}
 use Rattle.frame.proofs.PacketLaws.{packets-given}
 use Rattle.frame.proofs.ReplyLaws.{value-was, refused-was}
-use Rattle.network.specs.Network.{parentIn, Network, vlAt, parentAt}
+use Rattle.network.specs.Network.{Network, vlAt, streamAt, hopAt, parentAt}
 use Rattle.network.specs.References.{hopNamesVl, namesPort, parentEarlier, parentSameVl, parentLowerPort, noEarlierTwin, routeLonger, notTooDeep, refFault, oneSample}
 use Rattle.network.proofs.ReferenceLaws.{hop-row}
 use Rattle.network.proofs.RouteLaws.{root-not-longer, child-longer}
 use Rattle.network.proofs.TestsAre.{hop-names-vl-is, names-port-is, hop-fails-0, hop-fails-1, hop-fails-2, hop-fails-3, hop-fails-4, hop-fails-5, hop-fails-6, one-sample-is, not-too-deep-is, nothing-shorter}
 use Rattle.table.specs.Answers.{answer, accepted}
-use Rattle.table.specs.Write.{Lists}
-use Rattle.table.specs.Decoded.{parentOf, networkOf}
 use Rattle.reader.specs.Referring.{rowAnswer, parentFault, Named}
-use Rattle.table.proofs.DecodedLaws.{parent-none}
-use Rattle.reader.proofs.ReferringLaws.{parent-row, row-refused, row-accepted, vls-long, ports-long, vl-of-hop, port-of-hop, vl-of-stream, sampling-of-stream, size-of-stream, lmax-of-vl}
+use Rattle.reader.proofs.ReferringLaws.{row-refused, row-accepted}
 
 -- ---- the tests of the parent
 abbrev firstOf : Bool → Bool → Bool → ℕ
@@ -40,29 +37,20 @@ all-of true false d e = absurd (omega arith)
 all-of false b d e = absurd (omega arith)
 
 -- ---- a hop
-module _ (ls : Lists) (h : ℕ) (l : h < length (ls .hops) / 3) where
-  abbrev net : Network
-  net = networkOf ls
+module _ (net : Network) (h : ℕ) where
+  pub hop-no-vl : length (net .vls) ≤ hopAt net h .vl → answer 5 5 h 0 ≡ rowAnswer net 5 h
+  hop-no-vl m = sym (row-refused net 5 h 0 (hop-fails-0 net h (hop-names-vl-is net h ∙ le-ltb _ _ m)))
 
-  hop-names-said : hopNamesVl net h ≡ ltb (getD (ls .hops) (h * 3) 0) (length (ls .vls) / 4)
-  hop-names-said = hop-names-vl-is net h ∙ ap₂ ltb (vl-of-hop ls h l) (vls-long ls)
-
-  names-port-said : namesPort net h ≡ ltb (getD (ls .hops) (h * 3 + 1) 0) (length (ls .ports) / 3)
-  names-port-said = names-port-is net h ∙ ap₂ ltb (port-of-hop ls h l) (ports-long ls)
-
-  pub hop-no-vl : length (ls .vls) / 4 ≤ getD (ls .hops) (h * 3) 0 → answer 5 5 h 0 ≡ rowAnswer net 5 h
-  hop-no-vl m = sym (row-refused net 5 h 0 (hop-fails-0 net h (hop-names-said ∙ le-ltb _ _ m)))
-
-  module _ (vl : getD (ls .hops) (h * 3) 0 < length (ls .vls) / 4) where
+  module _ (vl : hopAt net h .vl < length (net .vls)) where
     names-vl : hopNamesVl net h ≡ true
-    names-vl = hop-names-said ∙ lt-ltb _ _ vl
+    names-vl = hop-names-vl-is net h ∙ lt-ltb _ _ vl
 
-    pub hop-no-port : length (ls .ports) / 3 ≤ getD (ls .hops) (h * 3 + 1) 0 → answer 5 5 h 1 ≡ rowAnswer net 5 h
-    hop-no-port m = sym (row-refused net 5 h 1 (hop-fails-1 net h names-vl (names-port-said ∙ le-ltb _ _ m)))
+    pub hop-no-port : length (net .ports) ≤ hopAt net h .port → answer 5 5 h 1 ≡ rowAnswer net 5 h
+    hop-no-port m = sym (row-refused net 5 h 1 (hop-fails-1 net h names-vl (names-port-is net h ∙ le-ltb _ _ m)))
 
-    module _ (port : getD (ls .hops) (h * 3 + 1) 0 < length (ls .ports) / 3) where
+    module _ (port : hopAt net h .port < length (net .ports)) where
       names-the-port : namesPort net h ≡ true
-      names-the-port = names-port-said ∙ lt-ltb _ _ port
+      names-the-port = names-port-is net h ∙ lt-ltb _ _ port
 
       pub hop-bad-parent : (p : ℕ) → p ≡ parentFault net h → 0 < p → answer 5 5 h p ≡ rowAnswer net 5 h
       unfolding parentFault
@@ -108,16 +96,15 @@ module _ (ls : Lists) (h : ℕ) (l : h < length (ls .hops) / 3) where
             }))
 
 -- the route is followed for 8 hops: it ends, it goes on with the parent, or it is too long
-module _ (net : Network) (h n g p : ℕ) (left : 0 < n) (stored : parentAt net g ≡ parentIn (parentOf p)) (so-far : routeLonger net 8 h ≡ routeLonger net n g) where
+module _ (net : Network) (h n g : ℕ) (left : 0 < n) (so-far : routeLonger net 8 h ≡ routeLonger net n g) where
   one-of : routeLonger net n g ≡ routeLonger net (suc (n - 1)) g
   one-of = let e : n ≡ suc (n - 1) = omega arith in ap (λ (m : ℕ). routeLonger net m g) e
 
-  pub route-ends : p ≡ 0 → true ≡ notTooDeep net h
-  route-ends e =
-      sym (not-too-deep-is net h ∙ ap not (so-far ∙ one-of ∙ root-not-longer net (n - 1) g (stored ∙ ap (λ (n : ℕ). parentIn (parentOf n)) e ∙ parent-none)))
+  pub route-ends : parentAt net g ≡ none → true ≡ notTooDeep net h
+  route-ends root = sym (not-too-deep-is net h ∙ ap not (so-far ∙ one-of ∙ root-not-longer net (n - 1) g root))
 
-  pub route-goes-on : (p ≡ 0 → ⊥) → routeLonger net 8 h ≡ routeLonger net (n - 1) (p - 1)
-  route-goes-on some-parent = so-far ∙ one-of ∙ child-longer net (n - 1) g (p - 1) (stored ∙ parent-row p some-parent)
+  pub route-goes-on : (p : ℕ) → parentAt net g ≡ some p → routeLonger net 8 h ≡ routeLonger net (n - 1) p
+  route-goes-on p is = so-far ∙ one-of ∙ child-longer net (n - 1) g p is
 
 pub route-too-long : (net : Network) (h n g : ℕ) → n ≤ 0 → routeLonger net 8 h ≡ routeLonger net n g → false ≡ notTooDeep net h
 route-too-long net h n g l e =
@@ -125,39 +112,26 @@ route-too-long net h n g l e =
     sym (not-too-deep-is net h ∙ ap not (e ∙ ap (λ (m : ℕ). routeLonger net m g) z ∙ nothing-shorter net g))
 
 -- ---- samples
-module _ (ls : Lists) (s : ℕ) (named : Named (ls .vls) (ls .streams)) (h : s < length (ls .streams) / 7) where
-  abbrev kind : ℕ
-  kind = getD (ls .streams) (s * 7 + 2) 0
-
+module _ (net : Network) (s : ℕ) (named : Named net) (h : s < length (net .streams)) where
   abbrev m : ℕ
-  m = getD (ls .streams) (s * 7 + 3) 0
-
-  abbrev v : ℕ
-  v = getD (ls .streams) (s * 7) 0
+  m = streamAt net s .size
 
   abbrev lmax : ℕ
-  lmax = getD (ls .vls) (v * 4 + 3) 0
-
-  sample-said : oneSample (networkOf ls) s ≡ not (eqb kind 1) || leb (packets m lmax) 1
-  sample-said =
-      let net = networkOf ls in
-      let on = ap (λ (i : ℕ). vlAt net i .lmax) (vl-of-stream ls s h) ∙ lmax-of-vl ls v (named .vl s h) in
-      one-sample-is net s
-      ∙ ap₂ (λ (b : Bool) (p : ℕ). not b || leb p 1) (sampling-of-stream ls s h) (ap₂ packets (size-of-stream ls s h) on)
+  lmax = vlAt net (streamAt net s .vl) .lmax
 
   given : packetsOf m lmax ≡ some (packets m lmax)
   given =
-      let low = named .vl s h in
-      let sized = named .sized in
-      packets-given m lmax (sized .lmax-least v low) (sized .lmax-greatest v low) (sized .size-least s h) (sized .size-greatest s h)
+      let vl = named .ranges .vl (streamAt net s .vl) (named .vl s h) in
+      let stream = named .ranges .stream s h in
+      packets-given m lmax (vl .lmax-least) (vl .lmax-greatest) (omega (arith, stream)) (stream .size-greatest)
 
-  pub not-sampling : (kind ≡ 1 → ⊥) → true ≡ oneSample (networkOf ls) s
-  not-sampling e = sym (sample-said ∙ rw (ne-eqb _ _ e))
+  pub not-sampling : streamAt net s .sampling ≡ false → true ≡ oneSample net s
+  not-sampling e = sym (one-sample-is net s ∙ rw e)
 
-  pub sample-counted : (n : ℕ) (r : Reply) → kind ≡ 1 → said r ≡ ruled (packetsOf m lmax) → r ≡ Value n → leb n 1 ≡ oneSample (networkOf ls) s
+  pub sample-counted : (n : ℕ) (r : Reply) → streamAt net s .sampling ≡ true → said r ≡ ruled (packetsOf m lmax) → r ≡ Value n → leb n 1 ≡ oneSample net s
   sample-counted n r e told is =
       let same = Option·some-injective _ _ (sym given ∙ value-was (packetsOf m lmax) n (sym (ap said is) ∙ told)) in
-      sym (sample-said ∙ rw (eq-eqb _ _ e, same))
+      sym (one-sample-is net s ∙ rw (e, same))
 
   pub sample-asked : (r : Reply) → said r ≡ ruled (packetsOf m lmax) → r ≡ Refused → ⊥
   sample-asked r told is = Option·none-ne-some _ (sym (refused-was (packetsOf m lmax) (sym (ap said is) ∙ told)) ∙ given)

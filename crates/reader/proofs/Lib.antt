@@ -1,5 +1,5 @@
 pub mod ReferringLaws
 pub mod HopLaws
 pub mod AnsweringLaws
-pub mod CheckLaws
+pub mod FillLaws
 pub mod Unique

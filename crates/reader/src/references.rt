@@ -1,19 +1,20 @@
-// 01's answers 5 and 6: the references of a table that is unpacked to lists of numbers, row by row in 01's order, and its sampling messages.
-// A record has 4 numbers for a VL, 7 for a stream, 3 for a port, 3 for a hop and 1 for an end system. What is promised of some lists holds whatever the others are.
+// 01's answers 5 and 6: the references of the network on a sheet, row by row in 01's order, and its sampling messages.
+// A record past the last row is one of zeros, so that each test stands for every row.
 use frame::Reply;
+use layout::sizes::SHEET;
+use network::Parent;
 use table::Answer;
-ghost use Prim.Native.Nat.{ℕ, _*_, _/_, _+_, _<_};
-ghost use mathlib.Core.List.{List, [], _∷_};
+ghost use Prim.Native.Nat.{_<_};
+ghost use mathlib.Core.List.{[], _∷_};
 ghost use mathlib.Core.Path.{_≡_};
 ghost use lib.Dec.{ltb};
 ghost use lib.ListN.{length};
-ghost use Rattle.network.specs.Network.{parentIn, parentAt};
-ghost use Rattle.network.specs.References.{hasHop, twinOf, noEarlierTwin, notTooDeep, oneSample};
+ghost use Rattle.network.specs.References.{hasHop, twinOf, noEarlierTwin, notTooDeep, namingRows, oneSample};
+ghost use Rattle.network.specs.Ranges.{Ranges};
+ghost use Rattle.sheet.specs.Sheet.{networkOn};
 ghost use Rattle.table.specs.Answers.{answer, accepted, firstGiven};
-ghost use Rattle.table.specs.Write.{Lists};
-ghost use Rattle.table.specs.Decoded.{parentOf};
 ghost use Rattle.table.specs.Read.{answer5, answer6};
-ghost use Rattle.reader.specs.Referring.{overHops, overVls, overStreams, overRoutes, overAll, testedRows, rowAnswer, sectionAnswer, sampleAnswer, parentFault, Sized, Named};
+ghost use Rattle.reader.specs.Referring.{rowAnswer, sectionAnswer, sampleAnswer, parentFault, Named};
 
 fn accept() -> Answer
     ensures { λ r. ⌜ r ≡ accepted ⌝ }
@@ -38,13 +39,14 @@ fn refuse(number: u64, section: u64, row: usize, test: u64) -> Answer
 }
 
 // ---- VLs: each names an end system and has a hop.
-fn has_hop(hops: &[u64], v: usize) -> bool
-    ensures { λ r. ⌜ ((ls : Lists) → r ≡ hasHop (overHops ls (now (hops .entry))) v) ⌝ }
+fn has_hop(net: &[u64; SHEET], v: usize) -> bool
+    ensures { λ r. ⌜ r ≡ hasHop (networkOn (now (net .entry))) v ⌝ }
 {
-    let n = hops.len() / 3;
+    let n = sheet::hops_in(net);
     let mut h = 0;
     while h < n {
-        if hops[h * 3] == v as u64 {
+        let hop = sheet::hop_at(net, h);
+        if hop.vl == v {
             return true;
         }
         h += 1;
@@ -52,86 +54,74 @@ fn has_hop(hops: &[u64], v: usize) -> bool
     false
 }
 
-fn vl_answer(systems: &[u64], vls: &[u64], hops: &[u64], v: usize) -> Answer
-    requires { ⌜ v < length (now vls) / 4 ⌝ }
-    ensures { λ r. ⌜ ((ls : Lists) → r ≡ rowAnswer (overVls ls (now (systems .entry)) (now (vls .entry)) (now (hops .entry))) 2 v) ⌝ }
+fn vl_answer(net: &[u64; SHEET], v: usize) -> Answer
+    ensures { λ r. ⌜ r ≡ rowAnswer (networkOn (now (net .entry))) 2 v ⌝ }
 {
-    if systems.len() as u64 <= vls[v * 4] {
+    let vl = sheet::vl_at(net, v);
+    if sheet::systems_in(net) <= vl.system {
         return refuse(5, 2, v, 0);
     }
-    if has_hop(hops, v) {
+    if has_hop(net, v) {
         return accept();
     }
     refuse(5, 2, v, 1)
 }
 
 // ---- streams: each names a VL and a sub-link of it.
-fn stream_answer(vls: &[u64], streams: &[u64], s: usize) -> Answer
-    requires { ⌜ s < length (now streams) / 7 ⌝ }
-    ensures { λ r. ⌜ ((ls : Lists) → r ≡ rowAnswer (overStreams ls (now (vls .entry)) (now (streams .entry))) 3 s) ⌝ }
+fn stream_answer(net: &[u64; SHEET], s: usize) -> Answer
+    ensures { λ r. ⌜ r ≡ rowAnswer (networkOn (now (net .entry))) 3 s ⌝ }
 {
-    let n = vls.len() / 4;
-    let v = streams[s * 7];
-    if n as u64 <= v {
+    let stream = sheet::stream_at(net, s);
+    if sheet::vls_in(net) <= stream.vl {
         return refuse(5, 3, s, 0);
     }
-    if vls[v as usize * 4 + 2] <= streams[s * 7 + 1] {
+    let vl = sheet::vl_at(net, stream.vl);
+    if vl.sublinks <= stream.sublink {
         return refuse(5, 3, s, 1);
     }
     accept()
 }
 
 // ---- hops: each names a VL and a port; its parent is an earlier row of the same VL on a lower-numbered port; no earlier hop is its twin; it is not deeper than 8.
-// The parent's row + 1, or 0; also 0 past the last row.
-fn parent_of(hops: &[u64], g: u64) -> u64
-    ensures { λ r. ⌜ ((ls : Lists) → parentAt (overHops ls (now (hops .entry))) g ≡ parentIn (parentOf r)) ⌝ }
-{
-    let n = hops.len() / 3;
-    if n as u64 <= g {
-        return 0;
-    }
-    hops[g as usize * 3 + 2]
-}
-
 // The first test of the parent that fails; 0 where none does.
-fn parent_fault(hops: &[u64], h: usize) -> u64
-    requires { ⌜ h < length (now hops) / 3 ⌝ }
-    ensures { λ r. ⌜ ((ls : Lists) → r ≡ parentFault (overHops ls (now (hops .entry))) h) ⌝ }
+fn parent_fault(net: &[u64; SHEET], h: usize) -> u64
+    ensures { λ r. ⌜ r ≡ parentFault (networkOn (now (net .entry))) h ⌝ }
 {
-    let p = hops[h * 3 + 2];
-    if p == 0 {
+    let hop = sheet::hop_at(net, h);
+    let parent = hop.parent;
+    let Parent::After(g) = parent else {
         return 0;
-    }
-    let g = p - 1;
-    if h as u64 <= g {
+    };
+    if h <= g {
         return 2;
     }
-    if hops[g as usize * 3] != hops[h * 3] {
+    let above = sheet::hop_at(net, g);
+    if above.vl != hop.vl {
         return 3;
     }
-    if hops[h * 3 + 1] <= hops[g as usize * 3 + 1] {
+    if hop.port <= above.port {
         return 4;
     }
     0
 }
 
-fn is_twin(hops: &[u64], h: usize, g: usize) -> bool
-    requires { ⌜ (h < length (now hops) / 3) × (g < length (now hops) / 3) ⌝ }
-    ensures { λ r. ⌜ ((ls : Lists) → r ≡ twinOf (overHops ls (now (hops .entry))) h g) ⌝ }
+fn is_twin(net: &[u64; SHEET], h: usize, g: usize) -> bool
+    ensures { λ r. ⌜ r ≡ twinOf (networkOn (now (net .entry))) h g ⌝ }
 {
-    if hops[g * 3] == hops[h * 3] {
-        return hops[g * 3 + 1] == hops[h * 3 + 1];
+    let hop = sheet::hop_at(net, h);
+    let other = sheet::hop_at(net, g);
+    if other.vl == hop.vl {
+        return other.port == hop.port;
     }
     false
 }
 
-fn no_earlier_twin(hops: &[u64], h: usize) -> bool
-    requires { ⌜ h < length (now hops) / 3 ⌝ }
-    ensures { λ r. ⌜ ((ls : Lists) → r ≡ noEarlierTwin (overHops ls (now (hops .entry))) h) ⌝ }
+fn no_earlier_twin(net: &[u64; SHEET], h: usize) -> bool
+    ensures { λ r. ⌜ r ≡ noEarlierTwin (networkOn (now (net .entry))) h ⌝ }
 {
     let mut g = 0;
     while g < h {
-        if is_twin(hops, h, g) {
+        if is_twin(net, h, g) {
             return false;
         }
         g += 1;
@@ -139,93 +129,77 @@ fn no_earlier_twin(hops: &[u64], h: usize) -> bool
     true
 }
 
-fn not_too_deep(hops: &[u64], h: usize) -> bool
-    ensures { λ r. ⌜ ((ls : Lists) → r ≡ notTooDeep (overHops ls (now (hops .entry))) h) ⌝ }
+fn not_too_deep(net: &[u64; SHEET], h: usize) -> bool
+    ensures { λ r. ⌜ r ≡ notTooDeep (networkOn (now (net .entry))) h ⌝ }
 {
     let mut n = 8usize;
-    let mut g = h as u64;
+    let mut g = h;
     while 0 < n {
-        let p = parent_of(hops, g);
-        if p == 0 {
+        let hop = sheet::hop_at(net, g);
+        let parent = hop.parent;
+        let Parent::After(above) = parent else {
             return true;
-        }
-        g = p - 1;
+        };
+        g = above;
         n -= 1;
     }
     false
 }
 
-fn hop_answer(vls: &[u64], ports: &[u64], hops: &[u64], h: usize) -> Answer
-    requires { ⌜ h < length (now hops) / 3 ⌝ }
-    ensures { λ r. ⌜ ((ls : Lists) → r ≡ rowAnswer (overRoutes ls (now (vls .entry)) (now (ports .entry)) (now (hops .entry))) 5 h) ⌝ }
+fn hop_answer(net: &[u64; SHEET], h: usize) -> Answer
+    ensures { λ r. ⌜ r ≡ rowAnswer (networkOn (now (net .entry))) 5 h ⌝ }
 {
-    let n = vls.len() / 4;
-    if n as u64 <= hops[h * 3] {
+    let hop = sheet::hop_at(net, h);
+    if sheet::vls_in(net) <= hop.vl {
         return refuse(5, 5, h, 0);
     }
-    let m = ports.len() / 3;
-    if m as u64 <= hops[h * 3 + 1] {
+    if sheet::ports_in(net) <= hop.port {
         return refuse(5, 5, h, 1);
     }
-    let p = parent_fault(hops, h);
+    let p = parent_fault(net, h);
     if 0 < p {
         return refuse(5, 5, h, p);
     }
-    if !no_earlier_twin(hops, h) {
+    if !no_earlier_twin(net, h) {
         return refuse(5, 5, h, 5);
     }
-    if !not_too_deep(hops, h) {
+    if !not_too_deep(net, h) {
         return refuse(5, 5, h, 6);
     }
     accept()
 }
 
 // ---- a row of any section; end systems and ports name nothing.
-fn row_answer(
-    systems: &[u64],
-    vls: &[u64],
-    streams: &[u64],
-    ports: &[u64],
-    hops: &[u64],
-    section: usize,
-    i: usize,
-) -> Answer
-    requires { ⌜ i < testedRows (now vls) (now streams) (now hops) section ⌝ }
-    ensures { λ r. ⌜ ((delays : List ℕ) → r ≡ rowAnswer (overAll delays (now (systems .entry)) (now (vls .entry)) (now (streams .entry)) (now (ports .entry)) (now (hops .entry))) section i) ⌝ }
+fn row_answer(net: &[u64; SHEET], section: usize, i: usize) -> Answer
+    requires { ⌜ i < namingRows (networkOn (now net)) section ⌝ }
+    ensures { λ r. ⌜ r ≡ rowAnswer (networkOn (now (net .entry))) section i ⌝ }
 {
     match section {
-        2 => vl_answer(systems, vls, hops, i),
-        3 => stream_answer(vls, streams, i),
-        _ => hop_answer(vls, ports, hops, i),
+        2 => vl_answer(net, i),
+        3 => stream_answer(net, i),
+        _ => hop_answer(net, i),
     }
 }
 
-fn rows_of(vls: &[u64], streams: &[u64], hops: &[u64], section: usize) -> usize
-    ensures { λ r. ⌜ r ≡ testedRows (now (vls .entry)) (now (streams .entry)) (now (hops .entry)) section ⌝ }
+fn rows_of(net: &[u64; SHEET], section: usize) -> usize
+    ensures { λ r. ⌜ r ≡ namingRows (networkOn (now (net .entry))) section ⌝ }
 {
     match section {
-        2 => vls.len() / 4,
-        3 => streams.len() / 7,
-        5 => hops.len() / 3,
+        2 => sheet::vls_in(net),
+        3 => sheet::streams_in(net),
+        5 => sheet::hops_in(net),
         _ => 0,
     }
 }
 
 // The first row of a section with a bad reference.
-fn section_answer(
-    systems: &[u64],
-    vls: &[u64],
-    streams: &[u64],
-    ports: &[u64],
-    hops: &[u64],
-    section: usize,
-) -> Answer
-    ensures { λ r. ⌜ ((delays : List ℕ) → r ≡ sectionAnswer (overAll delays (now (systems .entry)) (now (vls .entry)) (now (streams .entry)) (now (ports .entry)) (now (hops .entry))) section) ⌝ }
+fn section_answer(net: &[u64; SHEET], section: usize) -> Answer
+    ensures { λ r. ⌜ r ≡ sectionAnswer (networkOn (now (net .entry))) section ⌝ }
 {
-    let n = rows_of(vls, streams, hops, section);
+    let n = rows_of(net, section);
     let mut i = 0;
     while i < n {
-        let a = row_answer(systems, vls, streams, ports, hops, section, i);
+        let a = row_answer(net, section, i);
         if is_refusal(a) {
             return a;
         }
@@ -234,36 +208,38 @@ fn section_answer(
     accept()
 }
 
-fn is_refusal(a: Answer) -> bool
+pub fn is_refusal(a: Answer) -> bool
     ensures { λ r. ⌜ r ≡ ltb 0 (a .number) ⌝ }
 {
     0 < a.number
 }
 
 // ---- samples: each is one packet.
-fn one_sample(vls: &[u64], streams: &[u64], s: usize) -> bool
-    requires { ⌜ Named (now vls) (now streams) × (s < length (now streams) / 7) ⌝ }
-    ensures { λ r. ⌜ ((ls : Lists) → r ≡ oneSample (overStreams ls (now (vls .entry)) (now (streams .entry))) s) ⌝ }
+fn one_sample(net: &[u64; SHEET], s: usize) -> bool
+    requires { ⌜ Named (networkOn (now net)) × (s < length (networkOn (now net) .streams)) ⌝ }
+    ensures { λ r. ⌜ r ≡ oneSample (networkOn (now (net .entry))) s ⌝ }
 {
-    if streams[s * 7 + 2] != 1 {
+    let stream = sheet::stream_at(net, s);
+    let sampling = stream.sampling;
+    if !sampling {
         return true;
     }
-    let v = streams[s * 7] as usize;
-    let p = frame::packets_of(streams[s * 7 + 3], vls[v * 4 + 3]);
+    let vl = sheet::vl_at(net, stream.vl);
+    let p = frame::packets_of(stream.size, vl.lmax);
     match p {
         Reply::Value(n) => n <= 1,
         Reply::Refused => false,
     }
 }
 
-fn samples(vls: &[u64], streams: &[u64]) -> Answer
-    requires { ⌜ Named (now vls) (now streams) ⌝ }
-    ensures { λ r. ⌜ ((ls : Lists) → r ≡ sampleAnswer (overStreams ls (now (vls .entry)) (now (streams .entry)))) ⌝ }
+fn samples(net: &[u64; SHEET]) -> Answer
+    requires { ⌜ Named (networkOn (now net)) ⌝ }
+    ensures { λ r. ⌜ r ≡ sampleAnswer (networkOn (now (net .entry))) ⌝ }
 {
-    let n = streams.len() / 7;
+    let n = sheet::streams_in(net);
     let mut s = 0;
     while s < n {
-        if !one_sample(vls, streams, s) {
+        if !one_sample(net, s) {
             return refuse(6, 3, s, 0);
         }
         s += 1;
@@ -272,27 +248,21 @@ fn samples(vls: &[u64], streams: &[u64]) -> Answer
 }
 
 // Answers 5 and 6.
-pub fn references(
-    systems: &[u64],
-    vls: &[u64],
-    streams: &[u64],
-    ports: &[u64],
-    hops: &[u64],
-) -> Answer
-    requires { ⌜ Sized (now vls) (now streams) ⌝ }
-    ensures { λ r. ⌜ ((delays : List ℕ) → r ≡ firstGiven (answer5 (overAll delays (now (systems .entry)) (now (vls .entry)) (now (streams .entry)) (now (ports .entry)) (now (hops .entry))) ∷ answer6 (overAll delays (now (systems .entry)) (now (vls .entry)) (now (streams .entry)) (now (ports .entry)) (now (hops .entry))) ∷ [])) ⌝ }
+pub fn references(net: &[u64; SHEET]) -> Answer
+    requires { ⌜ Ranges (networkOn (now net)) ⌝ }
+    ensures { λ r. ⌜ r ≡ firstGiven (answer5 (networkOn (now (net .entry))) ∷ answer6 (networkOn (now (net .entry))) ∷ []) ⌝ }
 {
-    let vl = section_answer(systems, vls, streams, ports, hops, 2);
+    let vl = section_answer(net, 2);
     if is_refusal(vl) {
         return vl;
     }
-    let stream = section_answer(systems, vls, streams, ports, hops, 3);
+    let stream = section_answer(net, 3);
     if is_refusal(stream) {
         return stream;
     }
-    let hop = section_answer(systems, vls, streams, ports, hops, 5);
+    let hop = section_answer(net, 5);
     if is_refusal(hop) {
         return hop;
     }
-    samples(vls, streams)
+    samples(net)
 }

@@ -152,11 +152,10 @@ module _ (bytes : List ℕ) (sound : Sound bytes) (i : ℕ) where
         delay-greatest = rw greatest (p .delay-greatest);
       }
 
-pub read-ranges : (bytes : List ℕ) → readAnswer bytes ≡ accepted → Ranges (networkIn bytes)
+pub sound-ranges : (bytes : List ℕ) → Sound bytes → Ranges (networkIn bytes)
 unfolding networkIn unpacked
-read-ranges bytes e =
+sound-ranges bytes sound =
     let ls = unpacked bytes in
-    let sound = read-sound bytes e in
     let limit = few bytes (sound .header) in
     let header = header-plain (headerRow bytes) (sound .header) in
     let systems = systems-are ls ∙ count-read bytes 0 (omega arith) in
@@ -183,3 +182,6 @@ read-ranges bytes e =
       stream = λ s h. stream-range bytes sound s (rw streams at h);
       port = λ p h. port-range bytes sound p (rw ports at h);
     }
+
+pub read-ranges : (bytes : List ℕ) → readAnswer bytes ≡ accepted → Ranges (networkIn bytes)
+read-ranges bytes e = sound-ranges bytes (read-sound bytes e)

@@ -179,6 +179,29 @@ module _ (bytes : List ℕ) (n : Lengths) (big : Roomy n) where
       let p = four bytes (answer11 bytes n ∷ []) (omega arith) in
       (rw (p .none1, p .none2, p .none3, p .none4, enough (header-good (p .none2))), rw (p .none1, p .none2, p .none3, p .none4))
 
+-- ---- the table's own answer, 1 to 4: its refusal is the reader's, and where it accepts, the reader goes on with 5 and 6
+module _ (bytes : List ℕ) where
+  pub own-refused : 0 < firstGiven (answer1 bytes ∷ answer2 bytes ∷ answer3 bytes ∷ answer4 bytes ∷ []) .number
+      → firstGiven (answer1 bytes ∷ answer2 bytes ∷ answer3 bytes ∷ answer4 bytes ∷ []) ≡ readAnswer bytes
+  unfolding readAnswer firstGiven
+  own-refused = go (answer1 bytes) (answer2 bytes) (answer3 bytes) (answer4 bytes)
+    where
+      go : (o1 o2 o3 o4 : Option Answer) → 0 < firstGiven (o1 ∷ o2 ∷ o3 ∷ o4 ∷ []) .number
+          → firstGiven (o1 ∷ o2 ∷ o3 ∷ o4 ∷ []) ≡ firstGiven (o1 ∷ o2 ∷ o3 ∷ o4 ∷ answer5 (networkIn bytes) ∷ answer6 (networkIn bytes) ∷ [])
+      go (some a) o2 o3 o4 h = refl
+      go none (some a) o3 o4 h = refl
+      go none none (some a) o4 h = refl
+      go none none none (some a) h = refl
+      go none none none none h = absurd (omega arith)
+
+  pub own-accepted : firstGiven (answer1 bytes ∷ answer2 bytes ∷ answer3 bytes ∷ answer4 bytes ∷ []) .number ≡ 0
+      → (unpackAnswer bytes readersLengths ≡ accepted) × (readAnswer bytes ≡ firstGiven (answer5 (networkIn bytes) ∷ answer6 (networkIn bytes) ∷ []))
+  unfolding unpackAnswer readAnswer firstGiven
+  own-accepted e =
+      let p = four bytes [] e in
+      let room = enough bytes readersLengths readers-roomy (header-good bytes readersLengths readers-roomy (p .none2)) in
+      (rw (p .none1, p .none2, p .none3, p .none4, room), rw (p .none1, p .none2, p .none3, p .none4))
+
 -- ---- what acceptance by the reader says: nothing was given, and the unpacker accepts too
 pub record Nothing (bytes : List ℕ) : Type 0 where
   pub none5 : answer5 (networkIn bytes) ≡ none

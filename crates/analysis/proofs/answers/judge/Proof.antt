@@ -7,7 +7,7 @@ use Prim.Native.Nat.{ℕ}
 use lib.ListN.{length}
 use Rattle.network.specs.Network.{Network}
 use Rattle.analysis.specs.Analysis.{answer7, answer8, answer9}
-use Rattle.analysis.specs.Sheet.{networkOn}
+use Rattle.sheet.specs.Sheet.{networkOn}
 use Rattle.analysis.proofs.JudgeLaws.{known-all, given-7, none-7, given-8-many, given-8-short, none-8, given-9, none-9, given-10, none-10, judged-7, judged-8, judged-9, judged-10, judged-accepted, judged-refuses, judged-accepts}
 use borrow.Author.Needs.{needs}
 use Rattle.analysis.proofs.answers.judge.Statement.{statement}

@@ -6,7 +6,7 @@ use mathlib.Core.Path.{_≡_}
 use native.Mathlib.Omega.{arith}
 use borrow.Author.Count.{below-more}
 use Rattle.rows.specs.Refusals.{sendsLate}
-use Rattle.analysis.specs.Sheet.{networkOn}
+use Rattle.sheet.specs.Sheet.{networkOn}
 use Rattle.analysis.proofs.LinkLaws.{late-is}
 use borrow.Author.Needs.{needs}
 use Rattle.analysis.proofs.links.late_system.Statement.{statement}

@@ -7,7 +7,7 @@ use borrow.Author.Count.{below-more}
 use lib.ListN.{length, getD, length-set}
 use lib.Seq.{getD-set-same, getD-set-other}
 use Rattle.rows.specs.Links.{muxWait}
-use Rattle.analysis.specs.Sheet.{networkOn}
+use Rattle.sheet.specs.Sheet.{networkOn}
 use borrow.Author.Needs.{needs}
 use Rattle.analysis.proofs.links.mux_waits.Statement.{statement}
 use Rattle.analysis.proofs.links.mux_waits.Tie as tie

@@ -4,13 +4,10 @@ use Prim.Native.Nat.{_*_, _≤_}
 use native.Mathlib.Nat.{mul-le-mul}
 use native.Mathlib.Omega.{arith}
 use Rattle.rows.specs.Links.{sendMost}
-use Rattle.analysis.proofs.SheetLaws.{system-range, vl-range, vl-system}
+use Rattle.analysis.proofs.RangeLaws.{system-range, vl-range, vl-system}
 use borrow.Author.Needs.{needs}
 use Rattle.analysis.proofs.links.send_most.Statement.{statement}
 use Rattle.analysis.proofs.links.send_most.Tie as tie
-
-system-at-requires : tie.Need-system-at-requires
-system-at-requires c κs = let p = c .before .pre in (p .0, vl-system (p .0) (c .vl-at .ensures) (p .1))
 
 line-requires : tie.Need-line-requires
 line-requires c κs =
@@ -35,4 +32,4 @@ unfolding sendMost
 returns c = (rw (c .before .line .ensures .0, c .before .before .system-at .ensures, c .before .before .before .vl-at .ensures), at-most c)
 
 pub send-most-spec : {M : Type 1} → statement M
-send-most-spec = tie.close (tie.spec (λ c κs. search needs) system-at-requires line-requires mul-result returns)
+send-most-spec = tie.close (tie.spec (λ c κs. search needs) (λ c κs. search needs) line-requires mul-result returns)

@@ -5,13 +5,10 @@ use native.Mathlib.Nat.{mul-le-mul}
 use native.Mathlib.Omega.{arith}
 use Rattle.frame.proofs.FrameLaws.{least-line-is}
 use Rattle.rows.specs.Links.{sendSpread}
-use Rattle.analysis.proofs.SheetLaws.{system-range, vl-range, vl-system}
+use Rattle.analysis.proofs.RangeLaws.{system-range, vl-range, vl-system}
 use borrow.Author.Needs.{needs}
 use Rattle.analysis.proofs.links.send_spread.Statement.{statement}
 use Rattle.analysis.proofs.links.send_spread.Tie as tie
-
-system-at-requires : tie.Need-system-at-requires
-system-at-requires c κs = let p = c .before .pre in (p .0, vl-system (p .0) (c .vl-at .ensures) (p .1))
 
 line-requires : tie.Need-line-requires
 line-requires c κs =
@@ -39,4 +36,4 @@ returns c =
     (rw (c .before .line .ensures .0, c .before .before .system-at .ensures, c .before .before .before .vl-at .ensures, least-line-is), at-most c)
 
 pub send-spread-spec : {M : Type 1} → statement M
-send-spread-spec = tie.close (tie.spec (λ c κs. search needs) system-at-requires line-requires (λ c. search needs) mul-result returns)
+send-spread-spec = tie.close (tie.spec (λ c κs. search needs) (λ c κs. search needs) line-requires (λ c. search needs) mul-result returns)

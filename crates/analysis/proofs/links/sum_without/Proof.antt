@@ -7,7 +7,7 @@ use native.Mathlib.Numerals.{add-one}
 use native.Mathlib.Omega.{arith}
 use lib.ListN.{length}
 use Rattle.network.specs.declared.Vl.{Vl}
-use Rattle.analysis.specs.Sheet.{networkOn}
+use Rattle.sheet.specs.Sheet.{networkOn}
 use Rattle.analysis.specs.Computing.{sumWithout}
 use Rattle.analysis.proofs.BoundLaws.{sum-without-bound}
 use Rattle.analysis.proofs.LinkLaws.{sum-without-none, sum-without-more, sum-without-itself, sum-without-stranger}

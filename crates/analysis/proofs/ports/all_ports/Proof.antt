@@ -5,7 +5,7 @@ use Prim.Native.Nat.{_-_}
 use native.Mathlib.Omega.{arith}
 use lib.ListN.{length}
 use borrow.Author.Needs.{needs}
-use Rattle.analysis.specs.Sheet.{networkOn}
+use Rattle.sheet.specs.Sheet.{networkOn}
 use Rattle.analysis.proofs.FigureLaws.{Figured, figured-none, port-accepted, first-endless, figured-more, none-endless}
 use Rattle.analysis.proofs.ports.all_ports.Statement.{statement}
 use Rattle.analysis.proofs.ports.all_ports.Tie as tie

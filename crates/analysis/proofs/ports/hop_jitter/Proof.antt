@@ -6,8 +6,8 @@ use mathlib.Core.Path.{_≡_}
 use native.Mathlib.Omega.{arith}
 use lib.ListN.{length, getD}
 use Rattle.network.specs.Network.{parentAt}
-use Rattle.analysis.specs.Sheet.{networkOn}
-use Rattle.analysis.proofs.SheetLaws.{hop-names, parent-there, parent-read}
+use Rattle.sheet.specs.Sheet.{networkOn}
+use Rattle.analysis.proofs.RangeLaws.{hop-names, parent-there, parent-read}
 use Rattle.analysis.proofs.HopLaws.{wait-bound, root-jitter-is, parent-jitter-bound, parent-figure-bound, child-jitter-is}
 use borrow.Author.Needs.{needs}
 use Rattle.analysis.proofs.ports.hop_jitter.Statement.{statement}
@@ -76,9 +76,6 @@ child-bounds c =
       ),
     )
 
-hop-at-requires-2 : tie.Need-hop-at-requires-2
-hop-at-requires-2 c κs = (c .before .before .before .before .before .pre .0, parent-row (c .before))
-
 mul-result-2 : tie.Need-mul-result-2
 mul-result-2 c = omega (arith, parent-row (c .before .before), c .before .before .before .before .before .before .pre .0 .ranges .few-hops)
 
@@ -126,7 +123,7 @@ hop-jitter-spec =
     add-result
     add-result-2
     returns
-    hop-at-requires-2
+    (λ c κs. search needs)
     mul-result-2
     element-copy-out-result-2
     mul-less

@@ -2,13 +2,10 @@
 -- Assumes nothing.
 use native.Mathlib.Omega.{arith}
 use Rattle.analysis.proofs.HopLaws.{hop-least-is}
-use Rattle.analysis.proofs.SheetLaws.{port-range, hop-names}
+use Rattle.analysis.proofs.RangeLaws.{port-range, hop-names}
 use borrow.Author.Needs.{needs}
 use Rattle.analysis.proofs.ports.hop_least.Statement.{statement}
 use Rattle.analysis.proofs.ports.hop_least.Tie as tie
-
-port-at-requires : tie.Need-port-at-requires
-port-at-requires c κs = let p = c .before .pre in (p .0, hop-names (p .0) (c .hop-at .ensures) (p .1) .1)
 
 mul-result : tie.Need-mul-result
 mul-result c =
@@ -23,4 +20,4 @@ returns c =
     (hop-least-is _ _ _ hop _ port, omega (arith, port-range (p .0) port (hop-names (p .0) hop (p .1) .1)))
 
 pub hop-least-spec : {M : Type 1} → statement M
-hop-least-spec = tie.close (tie.spec (λ c κs. search needs) port-at-requires mul-result returns)
+hop-least-spec = tie.close (tie.spec (λ c κs. search needs) (λ c κs. search needs) mul-result returns)

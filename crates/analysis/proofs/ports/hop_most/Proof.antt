@@ -2,16 +2,10 @@
 -- Assumes nothing.
 use native.Mathlib.Omega.{arith}
 use Rattle.analysis.proofs.HopLaws.{frame-bound, hop-most-is}
-use Rattle.analysis.proofs.SheetLaws.{vl-range, port-range, hop-names}
+use Rattle.analysis.proofs.RangeLaws.{vl-range, port-range, hop-names}
 use borrow.Author.Needs.{needs}
 use Rattle.analysis.proofs.ports.hop_most.Statement.{statement}
 use Rattle.analysis.proofs.ports.hop_most.Tie as tie
-
-vl-at-requires : tie.Need-vl-at-requires
-vl-at-requires c κs = let p = c .before .pre in (p .0, hop-names (p .0) (c .hop-at .ensures) (p .1) .0)
-
-port-at-requires : tie.Need-port-at-requires
-port-at-requires c κs = let p = c .before .before .pre in (p .0, hop-names (p .0) (c .before .hop-at .ensures) (p .1) .1)
 
 line-requires : tie.Need-line-requires
 line-requires c κs =
@@ -37,4 +31,4 @@ returns c =
     (hop-most-is _ _ _ hop _ port _ (c .before .before .before .vl-at .ensures) _ (bytes .0), bound .0, bound .1)
 
 pub hop-most-spec : {M : Type 1} → statement M
-hop-most-spec = tie.close (tie.spec (λ c κs. search needs) vl-at-requires port-at-requires line-requires mul-result returns)
+hop-most-spec = tie.close (tie.spec (λ c κs. search needs) (λ c κs. search needs) (λ c κs. search needs) line-requires mul-result returns)

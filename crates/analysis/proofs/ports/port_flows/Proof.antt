@@ -6,8 +6,7 @@ use Prim.Native.Nat.{_-_}
 use native.Mathlib.Omega.{arith}
 use borrow.Author.Needs.{needs}
 use Rattle.network.specs.declared.Hop.{Hop}
-use Rattle.analysis.specs.Sheet.{networkOn}
-use Rattle.analysis.proofs.SheetLaws.{hop-names}
+use Rattle.sheet.specs.Sheet.{networkOn}
 use Rattle.analysis.proofs.PortFlowLaws.{Gathering, gathering-none, gathering-taken, gathering-passed, gathered-port, jitters-on-port}
 use Rattle.analysis.proofs.ports.port_flows.Statement.{statement}
 use Rattle.analysis.proofs.ports.port_flows.Tie as tie
@@ -26,11 +25,6 @@ hop-jitter-requires c κs =
     let asked = c .before .before .before .before .before .before .before .pre in
     let on = ap (λ (x : Hop). x .port) (sym (c .before .before .before .hop-at .ensures)) ∙ c .before .if1 .taken in
     (asked .0, omega arith, asked .1, rw on (asked .2), rw on (c .before .before .before .before .before .loop .inv .lower))
-
-vl-at-requires : tie.Need-vl-at-requires Inv-loop μ-loop
-vl-at-requires c κs =
-    let good = c .before .before .before .before .before .before .before .before .pre .0 in
-    (good, hop-names good (c .before .before .before .before .hop-at .ensures) (omega arith) .0)
 
 hop-most-requires : tie.Need-hop-most-requires Inv-loop μ-loop
 hop-most-requires c κs = (c .before .before .before .before .before .before .before .before .before .pre .0, omega arith)
@@ -72,7 +66,7 @@ port-flows-spec =
     hop-jitter-requires
     (λ c. search needs)
     (λ c. search needs)
-    vl-at-requires
+    (λ c κs. search needs)
     hop-most-requires
     put-flow-requires
     (λ c. search needs)

@@ -8,7 +8,7 @@ use borrow.Author.Count.{below-more}
 use lib.ListN.{length}
 use Rattle.base.specs.Tests.{isSome}
 use Rattle.rows.specs.Refusals.{endlessSubLink}
-use Rattle.analysis.specs.Sheet.{networkOn}
+use Rattle.sheet.specs.Sheet.{networkOn}
 use Rattle.analysis.specs.Computing.{Queues}
 use Rattle.analysis.proofs.QueueLaws.{queues-none, queues-more, queues-kept}
 use borrow.Author.Needs.{needs}

@@ -5,8 +5,8 @@ use native.Mathlib.Nat.{mul-le-mul}
 use native.Mathlib.Omega.{arith}
 use lib.ListN.{length}
 use Rattle.network.specs.Ranges.{VlRange, StreamRange}
-use Rattle.analysis.specs.Sheet.{networkOn}
-use Rattle.analysis.proofs.SheetLaws.{DelayBounds, delays-range, vl-range, stream-range, stream-vl}
+use Rattle.sheet.specs.Sheet.{networkOn}
+use Rattle.analysis.proofs.RangeLaws.{DelayBounds, delays-range, vl-range, stream-range, stream-vl}
 use Rattle.analysis.proofs.QueueLaws.{queue-flow-is}
 use borrow.Author.Needs.{needs}
 use Rattle.analysis.proofs.queues.queue_flow.Statement.{statement}
@@ -21,9 +21,6 @@ vl-there c = let p = c .before .before .pre in stream-vl (p .0) (c .stream-at .e
 
 vl-known : (c : tie.After-vl-at) → VlRange (c .vl-at .result)
 vl-known c = vl-range (c .before .before .before .pre .0) (c .vl-at .ensures) (vl-there (c .before))
-
-vl-at-requires : tie.Need-vl-at-requires
-vl-at-requires c κs = (c .before .before .pre .0, vl-there c)
 
 delays-known : (c : tie.After-delays-of) → DelayBounds (c .delays-of .result)
 delays-known c = delays-range (c .before .pre .0) (c .delays-of .ensures)
@@ -55,7 +52,7 @@ queue-flow-spec =
     (tie.spec
     (λ c κs. search needs)
     (λ c κs. search needs)
-    vl-at-requires
+    (λ c κs. search needs)
     (λ c. delays-known (c .before .before .before) .send-ordered)
     (λ c. omega (arith, stream-known (c .before .before .before), delays-known (c .before .before .before .before)))
     packets-requires

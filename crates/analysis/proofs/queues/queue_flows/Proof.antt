@@ -4,7 +4,7 @@ use Prim.Native.Nat.{_-_, _≤_}
 use mathlib.Core.Logic.{⊎-elim}
 use native.Mathlib.Omega.{arith}
 use Rattle.rows.specs.Queues.{queueFlow}
-use Rattle.analysis.specs.Sheet.{networkOn}
+use Rattle.sheet.specs.Sheet.{networkOn}
 use Rattle.analysis.proofs.GatherLaws.{Gathers, gather-start, gather-taken, gather-passed}
 use Rattle.analysis.proofs.QueueLaws.{onSubLink, on-sub-link, on-other-sub-link, on-other-vl, sub-link-gathered}
 use borrow.Author.Needs.{needs}

@@ -9,9 +9,9 @@ use lib.ListN.{length, getD, length-set}
 use Rattle.base.specs.Tests.{isSome}
 use Rattle.network.specs.declared.Vl.{Vl}
 use Rattle.rows.specs.Queues.{queueLength}
-use Rattle.analysis.specs.Sheet.{networkOn}
+use Rattle.sheet.specs.Sheet.{networkOn}
 use Rattle.analysis.specs.Computing.{QueuesOf}
-use Rattle.analysis.proofs.SheetLaws.{vl-range}
+use Rattle.analysis.proofs.RangeLaws.{vl-range}
 use Rattle.analysis.proofs.QueueLaws.{sub-link-endless, no-sub-link-endless, queue-stored, earlier-kept}
 use borrow.Author.Needs.{needs}
 use Rattle.analysis.proofs.queues.vl_queues.Statement.{statement}

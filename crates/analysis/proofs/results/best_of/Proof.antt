@@ -9,9 +9,9 @@ use Rattle.network.specs.declared.Vl.{Vl}
 use Rattle.network.specs.declared.Stream.{Stream}
 use Rattle.network.specs.Ranges.{VlRange, StreamRange}
 use Rattle.rows.specs.Links.{sendLine}
-use Rattle.analysis.specs.declared.sheet.Delays.{Delays}
-use Rattle.analysis.specs.Sheet.{networkOn}
-use Rattle.analysis.proofs.SheetLaws.{DelayBounds, delays-range, vl-range, stream-range, stream-vl}
+use Rattle.sheet.specs.declared.Delays.{Delays}
+use Rattle.sheet.specs.Sheet.{networkOn}
+use Rattle.analysis.proofs.RangeLaws.{DelayBounds, delays-range, vl-range, stream-range, stream-vl}
 use Rattle.analysis.proofs.RowLaws.{gaps-read, best-is}
 use borrow.Author.Needs.{needs}
 use Rattle.analysis.proofs.results.best_of.Statement.{statement}
@@ -28,9 +28,6 @@ vl-there c = let p = c .before .before .pre in stream-vl (p .0) (c .stream-at .e
 
 vl-known : (c : tie.After-vl-at) → VlRange (c .vl-at .result)
 vl-known c = vl-range (c .before .before .before .pre .0) (c .vl-at .ensures) (vl-there (c .before))
-
-vl-at-requires : tie.Need-vl-at-requires
-vl-at-requires c κs = (c .before .before .pre .0, vl-there c)
 
 packets-requires : tie.Need-packets-requires
 packets-requires c κs =
@@ -79,7 +76,7 @@ best-of-spec =
     (tie.spec
     (λ c κs. search needs)
     (λ c κs. search needs)
-    vl-at-requires
+    (λ c κs. search needs)
     packets-requires
     (λ c. search needs)
     mul-gaps

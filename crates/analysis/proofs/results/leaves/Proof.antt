@@ -6,8 +6,8 @@ use mathlib.Core.Logic.{⊎-elim}
 use Prim.Native.Nat.{_+_, _-_, _≤_, _<_}
 use native.Mathlib.Omega.{arith}
 use lib.ListN.{length, length-set, length-replicate}
-use Rattle.analysis.specs.Sheet.{networkOn}
-use Rattle.analysis.proofs.SheetLaws.{parent-there, parent-read}
+use Rattle.sheet.specs.Sheet.{networkOn}
+use Rattle.analysis.proofs.RangeLaws.{parent-there, parent-read}
 use Rattle.analysis.proofs.RowLaws.{LeavesTo, leaves-start, leaves-at-root, leaves-at-child, leaves-all}
 use borrow.Author.Needs.{needs}
 use Rattle.analysis.proofs.results.leaves.Statement.{statement}

@@ -8,7 +8,7 @@ use native.Mathlib.Omega.{arith}
 use lib.ListN.{length, length-append}
 use Rattle.network.specs.declared.Hop.{Hop}
 use Rattle.base.specs.Tabulate.{passing}
-use Rattle.analysis.specs.Sheet.{networkOn}
+use Rattle.sheet.specs.Sheet.{networkOn}
 use Rattle.analysis.proofs.RowLaws.{leavesTo, leaves-of-all, leaves-to-hit, leaves-to-other, leaves-to-inner}
 use borrow.Author.Needs.{needs}
 use Rattle.analysis.proofs.results.leaves_of.Statement.{statement}

@@ -10,7 +10,7 @@ use Rattle.network.specs.declared.Stream.{Stream}
 use Rattle.network.specs.declared.Hop.{Hop}
 use Rattle.network.specs.Network.{streamAt, hopAt}
 use Rattle.network.specs.Views.{leaf}
-use Rattle.analysis.specs.Sheet.{networkOn}
+use Rattle.sheet.specs.Sheet.{networkOn}
 use Rattle.analysis.proofs.RowLaws.{rows-up-to-other, rows-up-to-inner}
 use Rattle.analysis.proofs.JoinLaws.{PutTo, put-none, put-same, put-all, put-length, put-room, put-more}
 use borrow.Author.Needs.{needs}

@@ -6,9 +6,9 @@ use native.Mathlib.Omega.{arith}
 use Rattle.network.specs.declared.Stream.{Stream}
 use Rattle.network.specs.Network.{streamAt}
 use Rattle.rows.specs.Rows.{queueOf}
-use Rattle.analysis.specs.Sheet.{networkOn}
+use Rattle.sheet.specs.Sheet.{networkOn}
 use Rattle.analysis.proofs.BoundLaws.{queue-figure-bound}
-use Rattle.analysis.proofs.SheetLaws.{stream-vl, stream-sub-link}
+use Rattle.analysis.proofs.RangeLaws.{stream-vl, stream-sub-link}
 use Rattle.analysis.proofs.RowLaws.{queue-read}
 use borrow.Author.Needs.{needs}
 use Rattle.analysis.proofs.results.queue_of.Statement.{statement}

@@ -7,9 +7,9 @@ use lib.ListN.{length}
 use Rattle.network.specs.declared.Port.{Port}
 use Rattle.network.specs.declared.Hop.{Hop}
 use Rattle.network.specs.Views.{route}
-use Rattle.analysis.specs.Sheet.{networkOn}
+use Rattle.sheet.specs.Sheet.{networkOn}
 use Rattle.analysis.specs.Placing.{routeLeast}
-use Rattle.analysis.proofs.SheetLaws.{port-range, hop-names, parent-there, parent-read}
+use Rattle.analysis.proofs.RangeLaws.{port-range, hop-names, parent-there, parent-read}
 use Rattle.analysis.proofs.RowLaws.{along, along-root, along-child, along-none, leastAt, route-least-is, least-read}
 use borrow.Author.Needs.{needs}
 use Rattle.analysis.proofs.results.route_least.Statement.{statement}
@@ -44,9 +44,6 @@ loop-holds : tie.Need-loop-holds Inv-loop μ-loop
 loop-holds c =
     let net = networkOn (c .args .net .now) in
     (omega arith, c .pre .1, omega arith, omega (arith, route-least-is net (c .args .h)))
-
-port-at-requires : tie.Need-port-at-requires Inv-loop μ-loop
-port-at-requires c κs = (c .before .before .before .pre .0, port-there c)
 
 add-sum : tie.Need-add-sum Inv-loop μ-loop
 add-sum c = omega (arith, added c)
@@ -89,7 +86,7 @@ route-least-spec =
     μ-loop
     loop-holds
     (λ c κs. search needs)
-    port-at-requires
+    (λ c κs. search needs)
     (λ c κs. search needs)
     add-sum
     add-sum-2

@@ -8,10 +8,10 @@ use Rattle.network.specs.declared.Port.{Port}
 use Rattle.network.specs.declared.Hop.{Hop}
 use Rattle.rows.specs.Ports.{jitterOf}
 use Rattle.network.specs.Views.{route}
-use Rattle.analysis.specs.Sheet.{networkOn}
+use Rattle.sheet.specs.Sheet.{networkOn}
 use Rattle.analysis.specs.Placing.{routeMost}
 use Rattle.analysis.proofs.BoundLaws.{port-figure-bound}
-use Rattle.analysis.proofs.SheetLaws.{port-range, hop-names, parent-there, parent-read}
+use Rattle.analysis.proofs.RangeLaws.{port-range, hop-names, parent-there, parent-read}
 use Rattle.analysis.proofs.RowLaws.{along, along-root, along-child, along-none, mostAt, route-most-is, most-read}
 use borrow.Author.Needs.{needs}
 use Rattle.analysis.proofs.results.route_most.Statement.{statement}
@@ -52,9 +52,6 @@ loop-holds : tie.Need-loop-holds Inv-loop μ-loop
 loop-holds c =
     let net = networkOn (c .args .net .now) in
     (omega arith, c .pre .1, omega arith, omega (arith, route-most-is net (c .args .h)))
-
-port-at-requires : tie.Need-port-at-requires Inv-loop μ-loop
-port-at-requires c κs = (c .before .before .before .pre .0, port-there c)
 
 mul-sum : tie.Need-mul-sum Inv-loop μ-loop
 mul-sum c = omega (arith, port-there (c .before))
@@ -103,7 +100,7 @@ route-most-spec =
     μ-loop
     loop-holds
     (λ c κs. search needs)
-    port-at-requires
+    (λ c κs. search needs)
     mul-sum
     element-copy-out-sum
     add-sum

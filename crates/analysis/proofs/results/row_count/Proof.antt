@@ -7,7 +7,7 @@ use lib.ListN.{length}
 use Rattle.network.specs.declared.Stream.{Stream}
 use Rattle.network.specs.Views.{leavesOf}
 use Rattle.rows.specs.Rows.{rowsTo, rowsOf}
-use Rattle.analysis.specs.Sheet.{networkOn}
+use Rattle.sheet.specs.Sheet.{networkOn}
 use Rattle.analysis.proofs.RowLaws.{length-rows-more}
 use borrow.Author.Needs.{needs}
 use Rattle.analysis.proofs.results.row_count.Statement.{statement}

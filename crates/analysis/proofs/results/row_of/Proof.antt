@@ -3,8 +3,8 @@
 use mathlib.Core.Path.{ap}
 use native.Mathlib.Omega.{arith}
 use Rattle.network.specs.declared.Stream.{Stream}
-use Rattle.analysis.specs.Sheet.{networkOn}
-use Rattle.analysis.proofs.SheetLaws.{stream-range}
+use Rattle.sheet.specs.Sheet.{networkOn}
+use Rattle.analysis.proofs.RangeLaws.{stream-range}
 use Rattle.analysis.proofs.RowLaws.{row-read}
 use borrow.Author.Needs.{needs}
 use Rattle.analysis.proofs.results.row_of.Statement.{statement}

@@ -7,10 +7,10 @@ use lib.ListN.{length, getD}
 use Rattle.network.specs.declared.Stream.{Stream}
 use Rattle.network.specs.Network.{streamAt}
 use Rattle.rows.specs.Links.{sendMost, muxWait}
-use Rattle.analysis.specs.declared.sheet.Delays.{Delays}
-use Rattle.analysis.specs.Sheet.{networkOn}
+use Rattle.sheet.specs.declared.Delays.{Delays}
+use Rattle.sheet.specs.Sheet.{networkOn}
 use Rattle.analysis.proofs.BoundLaws.{mux-wait-bound}
-use Rattle.analysis.proofs.SheetLaws.{DelayBounds, delays-range, stream-vl}
+use Rattle.analysis.proofs.RangeLaws.{DelayBounds, delays-range, stream-vl}
 use Rattle.analysis.proofs.RowLaws.{wait-read, worst-is}
 use borrow.Author.Needs.{needs}
 use Rattle.analysis.proofs.results.worst_of.Statement.{statement}

@@ -1,32 +1,36 @@
 -- `reader::references::has_hop` meets its contract: after h turns none of the first h hops is of the VL.
 -- Assumes nothing.
-use mathlib.Core.Path.{_≡_}
-use Prim.Native.Nat.{ℕ, _-_, _*_, _≤_, _<_}
+use Prim.Native.Nat.{ℕ, _-_, _≤_, _<_}
+use mathlib.Core.Path.{_≡_, sym, ap, _∙_}
 use native.Mathlib.Omega.{arith}
-use lib.ListN.{getD}
 use borrow.Author.Count.{below-more}
+use Rattle.network.specs.declared.Hop.{Hop}
+use Rattle.network.specs.Network.{hopAt}
+use Rattle.sheet.specs.Sheet.{networkOn}
 use Rattle.reader.proofs.ReferringLaws.{has-hop-yes, has-hop-no}
 use borrow.Author.Needs.{needs}
 use Rattle.reader.proofs.references.has_hop.Statement.{statement}
 use Rattle.reader.proofs.references.has_hop.Tie as tie
 
 abbrev Inv-loop : tie.InvT-loop
-Inv-loop hops v n h₀ h = (h ≤ n) × ((k : ℕ) → k < h → getD hops (k * 3) 0 ≡ v → ⊥)
+Inv-loop net v n h₀ h = (h ≤ n) × ((k : ℕ) → k < h → hopAt (networkOn net) k .vl ≡ v → ⊥)
 
 abbrev μ-loop : tie.MeasureT-loop
-μ-loop hops v n h₀ h = n - h
+μ-loop net v n h₀ h = n - h
 
 loop-holds : tie.Need-loop-holds Inv-loop μ-loop
 loop-holds c = (omega arith, (λ k l. absurd (omega arith)))
 
 returns : tie.Need-returns Inv-loop μ-loop
-returns c = λ ls. has-hop-yes _ _ (c .before .before .before .loop .h) (omega arith) (c .if1 .taken)
+returns c =
+    let a = c .before .before .before .before .before .before .args in
+    has-hop-yes (networkOn (a .net .now)) (a .v) (c .before .before .before .before .loop .h) (omega arith) (ap (λ (x : Hop). x .vl) (sym (c .before .before .hop-at .ensures)) ∙ c .if1 .taken)
 
 loop-again : tie.Need-loop-again Inv-loop μ-loop
-loop-again c = (omega arith, below-more _ _ (c .before .before .before .loop .inv .1) (c .if1 .left))
+loop-again c = (omega arith, below-more _ _ (c .before .before .before .before .loop .inv .1) (λ e. c .if1 .left (ap (λ (x : Hop). x .vl) (c .before .before .hop-at .ensures) ∙ e)))
 
 returns-2 : tie.Need-returns-2 Inv-loop μ-loop
-returns-2 c = λ ls. has-hop-no _ _ (λ k l. c .before .loop .inv .1 k (omega arith))
+returns-2 c = let a = c .before .before .before .args in has-hop-no (networkOn (a .net .now)) (a .v) (λ k l. c .before .loop .inv .1 k (omega arith))
 
 pub has-hop-spec : {M : Type 1} → statement M
 has-hop-spec =
@@ -34,10 +38,9 @@ has-hop-spec =
     (tie.spec
     Inv-loop
     μ-loop
+    (λ c κs. search needs)
     loop-holds
-    (λ c. search needs)
-    (λ c. search needs)
-    (λ c. search needs)
+    (λ c κs. search needs)
     returns
     (λ c. search needs)
     (λ c. search needs)

@@ -1,35 +1,34 @@
 -- `reader::references::no_earlier_twin` meets its contract: after g turns none of the first g hops is a twin.
 -- Assumes nothing.
+use Prim.Native.Nat.{ℕ, _-_, _≤_, _<_}
 use mathlib.Core.Bool.{false}
 use mathlib.Core.Path.{_≡_, sym, _∙_}
-use Prim.Native.Nat.{ℕ, _-_, _≤_, _<_}
 use native.Mathlib.Omega.{arith}
 use borrow.Author.Count.{below-more}
 use Rattle.network.specs.References.{twinOf}
 use Rattle.network.proofs.TestsAre.{twin-before, no-twins}
-use Rattle.table.specs.Write.{Lists}
-use Rattle.reader.specs.Referring.{overHops}
+use Rattle.sheet.specs.Sheet.{networkOn}
 use borrow.Author.Needs.{needs}
 use Rattle.reader.proofs.references.no_earlier_twin.Statement.{statement}
 use Rattle.reader.proofs.references.no_earlier_twin.Tie as tie
 
 abbrev Inv-loop : tie.InvT-loop
-Inv-loop hops h g₀ g = (g ≤ h) × ((ls : Lists) (k : ℕ) → k < g → twinOf (overHops ls hops) h k ≡ false)
+Inv-loop net h g₀ g = (g ≤ h) × ((k : ℕ) → k < g → twinOf (networkOn net) h k ≡ false)
 
 abbrev μ-loop : tie.MeasureT-loop
-μ-loop hops h g₀ g = h - g
+μ-loop net h g₀ g = h - g
 
 loop-holds : tie.Need-loop-holds Inv-loop μ-loop
-loop-holds c = (omega arith, (λ ls k l. absurd (omega arith)))
+loop-holds c = (omega arith, (λ k l. absurd (omega arith)))
 
 returns : tie.Need-returns Inv-loop μ-loop
-returns c = λ ls. sym (twin-before _ _ (c .before .before .before .loop .g) (omega arith) (sym (c .before .is-twin .ensures ls) ∙ c .if1 .taken))
+returns c = let a = c .before .before .before .before .args in sym (twin-before (networkOn (a .net .now)) (a .h) (c .before .before .before .loop .g) (omega arith) (sym (c .before .is-twin .ensures) ∙ c .if1 .taken))
 
 loop-again : tie.Need-loop-again Inv-loop μ-loop
-loop-again c = (omega arith, (λ ls. below-more _ _ (c .before .before .before .loop .inv .1 ls) (sym (c .before .is-twin .ensures ls) ∙ c .if1 .left)))
+loop-again c = (omega arith, below-more _ _ (c .before .before .before .loop .inv .1) (sym (c .before .is-twin .ensures) ∙ c .if1 .left))
 
 returns-2 : tie.Need-returns-2 Inv-loop μ-loop
-returns-2 c = λ ls. sym (no-twins _ _ (λ k l. c .before .loop .inv .1 ls k (omega arith)))
+returns-2 c = let a = c .before .before .args in sym (no-twins (networkOn (a .net .now)) (a .h) (λ k l. c .before .loop .inv .1 k (omega arith)))
 
 pub no-earlier-twin-spec : {M : Type 1} → statement M
 no-earlier-twin-spec =

@@ -1,43 +1,49 @@
 -- `reader::references::stream_answer` meets its contract: each comparison decides one test.
 -- Assumes nothing.
-use mathlib.Core.Path.{_∙_}
+use mathlib.Core.Path.{ap, _∙_}
+use native.Mathlib.Omega.{arith}
+use Rattle.network.specs.declared.Vl.{Vl}
+use Rattle.network.specs.declared.Stream.{Stream}
+use Rattle.network.specs.Network.{vlAt}
+use Rattle.sheet.specs.Sheet.{networkOn}
 use Rattle.reader.proofs.ReferringLaws.{stream-no-vl, stream-no-sub-link, stream-good}
 use borrow.Author.Needs.{needs}
 use Rattle.reader.proofs.references.stream_answer.Statement.{statement}
 use Rattle.reader.proofs.references.stream_answer.Tie as tie
 
 returns : tie.Need-returns
-returns c = λ ls. c .refuse .ensures ∙ stream-no-vl _ _ (c .before .before .before .before .before .pre) (c .before .if1 .taken)
+returns c =
+    let a = c .before .before .before .before .before .args in
+    c .refuse .ensures
+    ∙ stream-no-vl (networkOn (a .net .now)) (a .s) (omega (arith, ap (λ (x : Stream). x .vl) (c .before .before .before .before .stream-at .ensures)))
 
 returns-2 : tie.Need-returns-2
 returns-2 c =
-    λ ls.
-    c .refuse2 .ensures ∙ stream-no-sub-link _ _ (c .before .before .before .before .before .before .before .before .pre)
-    (c .before .before .before .before .if1 .left) (c .before .if2 .taken)
+    let a = c .before .before .before .before .before .before .before .before .before .args in
+    let stream = c .before .before .before .before .before .before .before .before .stream-at .ensures in
+    let vl = c .before .before .before .before .vl-at .ensures in
+    let links = ap (λ (x : Vl). x .sublinks) vl ∙ ap (λ (x : Stream). vlAt (networkOn (a .net .now)) (x .vl) .sublinks) stream in
+    c .refuse2 .ensures
+    ∙ stream-no-sub-link (networkOn (a .net .now)) (a .s) (omega (arith, ap (λ (x : Stream). x .vl) stream)) (omega (arith, ap (λ (x : Stream). x .sublink) stream, links))
 
 returns-3 : tie.Need-returns-3
 returns-3 c =
-    λ ls.
-    c .accept .ensures ∙ stream-good _ _ (c .before .before .before .before .before .before .before .before .pre)
-    (c .before .before .before .before .if1 .left) (c .before .if2 .left)
+    let a = c .before .before .before .before .before .before .before .before .before .args in
+    let stream = c .before .before .before .before .before .before .before .before .stream-at .ensures in
+    let vl = c .before .before .before .before .vl-at .ensures in
+    let links = ap (λ (x : Vl). x .sublinks) vl ∙ ap (λ (x : Stream). vlAt (networkOn (a .net .now)) (x .vl) .sublinks) stream in
+    c .accept .ensures
+    ∙ stream-good (networkOn (a .net .now)) (a .s) (omega (arith, ap (λ (x : Stream). x .vl) stream)) (omega (arith, ap (λ (x : Stream). x .sublink) stream, links))
 
 pub stream-answer-spec : {M : Type 1} → statement M
 stream-answer-spec =
     tie.close
     (tie.spec
-    (λ c. search needs)
-    (λ c. search needs)
-    (λ c. search needs)
+    (λ c κs. search needs)
+    (λ c κs. search needs)
     (λ c κs. search needs)
     returns
-    (λ c. search needs)
-    (λ c. search needs)
-    (λ c. search needs)
-    (λ c. search needs)
-    (λ c. search needs)
-    (λ c. search needs)
-    (λ c. search needs)
-    (λ c. search needs)
+    (λ c κs. search needs)
     (λ c κs. search needs)
     returns-2
     (λ c κs. search needs)

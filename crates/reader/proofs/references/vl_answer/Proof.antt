@@ -1,37 +1,35 @@
 -- `reader::references::vl_answer` meets its contract: the comparison and the search decide one test each.
 -- Assumes nothing.
-use mathlib.Core.List.{[]}
-use mathlib.Core.Path.{sym, _∙_}
-use Rattle.reader.specs.Referring.{lists}
+use mathlib.Core.Path.{sym, ap, _∙_}
+use native.Mathlib.Omega.{arith}
+use Rattle.network.specs.declared.Vl.{Vl}
+use Rattle.sheet.specs.Sheet.{networkOn}
 use Rattle.reader.proofs.ReferringLaws.{vl-no-system, vl-no-hop, vl-good}
 use borrow.Author.Needs.{needs}
 use Rattle.reader.proofs.references.vl_answer.Statement.{statement}
 use Rattle.reader.proofs.references.vl_answer.Tie as tie
 
 returns : tie.Need-returns
-returns c = λ ls. c .refuse .ensures ∙ vl-no-system _ _ (c .before .before .before .before .before .before .pre) (c .before .if1 .taken)
+returns c = let a = c .before .before .before .before .before .args in c .refuse .ensures ∙ vl-no-system (networkOn (a .net .now)) (a .v) (omega (arith, ap (λ (x : Vl). x .system) (c .before .before .before .before .vl-at .ensures)))
 
 returns-2 : tie.Need-returns-2
 returns-2 c =
-    let a = c .before .before .before .before .before .before .before .before .args in
-    λ ls.
-    c .accept .ensures ∙ vl-good _ _ (c .before .before .before .before .before .before .before .before .pre) (c .before .before .before .if1 .left)
-    (sym (c .before .if2 .taken) ∙ c .before .before .has-hop .ensures (lists (ls .delays) (a .systems .now) (a .vls .now) (ls .streams) (ls .ports) []))
+    let a = c .before .before .before .before .before .before .before .args in
+    c .accept .ensures
+    ∙ vl-good (networkOn (a .net .now)) (a .v) (omega (arith, ap (λ (x : Vl). x .system) (c .before .before .before .before .before .before .vl-at .ensures))) (sym (c .before .if2 .taken) ∙ c .before .before .has-hop .ensures)
 
 returns-3 : tie.Need-returns-3
 returns-3 c =
-    let a = c .before .before .before .before .before .before .before .before .args in
-    λ ls.
-    c .refuse2 .ensures ∙ vl-no-hop _ _ (c .before .before .before .before .before .before .before .before .pre) (c .before .before .before .if1 .left)
-    (sym (c .before .if2 .left) ∙ c .before .before .has-hop .ensures (lists (ls .delays) (a .systems .now) (a .vls .now) (ls .streams) (ls .ports) []))
+    let a = c .before .before .before .before .before .before .before .args in
+    c .refuse2 .ensures
+    ∙ vl-no-hop (networkOn (a .net .now)) (a .v) (omega (arith, ap (λ (x : Vl). x .system) (c .before .before .before .before .before .before .vl-at .ensures))) (sym (c .before .if2 .left) ∙ c .before .before .has-hop .ensures)
 
 pub vl-answer-spec : {M : Type 1} → statement M
 vl-answer-spec =
     tie.close
     (tie.spec
-    (λ c. search needs)
-    (λ c. search needs)
-    (λ c. search needs)
+    (λ c κs. search needs)
+    (λ c κs. search needs)
     (λ c κs. search needs)
     returns
     (λ c κs. search needs)

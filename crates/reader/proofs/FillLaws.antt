@@ -1,0 +1,205 @@
+-- The sheet is filled from the front: behind the delays and the counts, each section's records and zeros up to its capacity. So it is the sheet of the table's lists, and the network on it is the table's.
+-- Assumes nothing.
+use Prim.Native.Nat.{ℕ, zero, suc, _+_, _-_, _*_, _/_, _≤_, _<_, min}
+use mathlib.Core.Bool.{true, false, true≢false, false≢true}
+use mathlib.Core.List.{List, [], _∷_, _++_, append-assoc}
+use mathlib.Core.Path.{_≡_, refl, sym, ap, ap₂, _∙_}
+use native.Mathlib.Nat.{le-div-iff-mul-le, mul-le-mul-right}
+use native.Mathlib.Omega.{arith}
+use borrow.Author.Tests.{lt-ltb, eq-eqb, ne-eqb}
+use lib.Dec.{ltb}
+use lib.ListN.{length, getD, take, drop, replicate, length-append, length-drop}
+use lib.Seq.{take-append-seam, length-take-le, take-all}
+use Rattle.base.specs.Tabulate.{tabulate}
+use Rattle.base.proofs.TabulateLaws.{tabulate-at}
+use Rattle.base.proofs.Tests.{within-yes}
+use Rattle.layout.specs.Rows.{listed}
+use Rattle.layout.specs.Sizes.{most, capacity, place}
+use Rattle.layout.proofs.LayoutLaws.{listed-is}
+use Rattle.layout.proofs.SizeLaws.{most-are, places-are}
+use Rattle.network.specs.Network.{Network}
+use Rattle.network.specs.Ranges.{Ranges}
+use Rattle.table.specs.declared.Answer.{Answer}
+use Rattle.table.specs.Answers.{accepted, firstGiven}
+use Rattle.table.specs.Sections.{rows, records, lent}
+use Rattle.table.specs.Unpack.{delaysOf}
+use Rattle.table.specs.Write.{listFor, recordsIn}
+use Rattle.table.specs.RoundTrip.{unpacked}
+use Rattle.table.specs.Decoded.{numberAt, networkOf}
+use Rattle.table.specs.Read.{networkIn, answer5, answer6, readAnswer}
+use Rattle.table.proofs.AnswerLaws.{Sound, unpack-was}
+use Rattle.table.proofs.SectionLaws.{length-records}
+use Rattle.table.proofs.UnpackLaws.{length-delays, listed-some}
+use Rattle.table.proofs.ReadingLaws.{few, readersLengths, own-refused, own-accepted}
+use Rattle.table.proofs.HeldLaws.{vl-row}
+use Rattle.table.proofs.ReadLaws.{count-read, number-read, read-references, read-sound, sound-ranges, read-ranges}
+use Rattle.unpacker.specs.Unpacking.{tableAnswer, fitting}
+use Rattle.sheet.specs.Sheet.{networkOn, Good, block, blocks, sheetOf}
+use Rattle.reader.specs.Reading.{readSheet}
+use Rattle.sheet.proofs.BlockLaws.{Held, length-block, length-blocks, network-same}
+
+-- ---- one part more behind the front that is known
+pub put-next : (s t p front : List ℕ) (a b : ℕ) → take a s ≡ front → a ≤ b → b ≤ length s → length p ≡ b - a → t ≡ take a s ++ (p ++ drop b s)
+    → (take b t ≡ front ++ p) × (length t ≡ length s)
+put-next s t p front a b known low high long e =
+    let here = length-take-le a s (omega arith) in
+    let whole : length (front ++ p) ≡ b = omega (arith, length-append front p, ap length known) in
+    let is : t ≡ (front ++ p) ++ drop b s = e ∙ ap (λ (f : List ℕ). f ++ (p ++ drop b s)) known ∙ sym (append-assoc front p (drop b s)) in (
+      ap₂ (λ (n : ℕ) (l : List ℕ). take n l) (sym whole) is ∙ take-append-seam (front ++ p) (drop b s),
+      omega (arith, ap length is, length-append (front ++ p) (drop b s), length-drop b s),
+    )
+
+-- ---- the delays and the counts
+four-front : (l r : List ℕ) → length l ≡ 4 → getD l 0 0 ∷ getD l 1 0 ∷ getD l 2 0 ∷ getD l 3 0 ∷ r ≡ l ++ r
+four-front [] r e = absurd (omega arith)
+four-front (a ∷ []) r e = absurd (omega arith)
+four-front (a ∷ b ∷ []) r e = absurd (omega arith)
+four-front (a ∷ b ∷ c ∷ []) r e = absurd (omega arith)
+four-front (a ∷ b ∷ c ∷ d ∷ []) r e = refl
+four-front (a ∷ b ∷ c ∷ d ∷ f ∷ l) r e = absurd (omega arith)
+
+pub head-is : (bytes d n : List ℕ) → d ≡ delaysOf bytes → n ≡ tabulate (rows bytes) 6
+    → getD d 0 0 ∷ getD d 1 0 ∷ getD d 2 0 ∷ getD d 3 0 ∷ getD n 1 0 ∷ getD n 2 0 ∷ getD n 3 0 ∷ getD n 4 0 ∷ getD n 5 0 ∷ [] ≡ block (unpacked bytes) 0
+unfolding block unpacked
+head-is bytes d n e f =
+    let count : (s : ℕ) → suc s < 6 → getD n (suc s) 0 ≡ recordsIn (unpacked bytes) (suc s)
+    = λ s h. ap (λ (l : List ℕ). getD l (suc s) 0) f ∙ tabulate-at (rows bytes) 6 (suc s) 0 h ∙ sym (count-read bytes s h) in
+    rw (count 0 (omega arith), count 1 (omega arith), count 2 (omega arith), count 3 (omega arith), count 4 (omega arith), e)
+    (four-front (delaysOf bytes) _ (length-delays bytes))
+
+-- ---- a table that 1 to 4 are not given to
+pub own-sound : (bytes : List ℕ) → tableAnswer bytes .number ≡ 0 → Sound bytes
+unfolding tableAnswer
+own-sound bytes e = unpack-was bytes readersLengths (own-accepted bytes e .0)
+
+module _ (bytes : List ℕ) (sound : Sound bytes) where
+  -- ---- the counts are within the limits
+  pub rows-most : (s : ℕ) → suc s < 6 → rows bytes (suc s) ≤ most (suc s)
+  rows-most zero h = rw (most-are .systems) (few bytes (sound .header) .systems)
+  rows-most (suc zero) h = rw (most-are .vls) (few bytes (sound .header) .vls)
+  rows-most (suc (suc zero)) h = rw (most-are .streams) (few bytes (sound .header) .streams)
+  rows-most (suc (suc (suc zero))) h = rw (most-are .ports) (few bytes (sound .header) .ports)
+  rows-most (suc (suc (suc (suc zero)))) h = rw (most-are .hops) (few bytes (sound .header) .hops)
+  rows-most (suc (suc (suc (suc (suc s))))) h = absurd (omega arith)
+
+  list-is : (s : ℕ) → suc s < 6 → listFor (unpacked bytes) (suc s) ≡ records bytes (suc s) (rows bytes (suc s))
+  unfolding listFor unpacked
+  list-is zero h = refl
+  list-is (suc zero) h = refl
+  list-is (suc (suc zero)) h = refl
+  list-is (suc (suc (suc zero))) h = refl
+  list-is (suc (suc (suc (suc zero)))) h = refl
+  list-is (suc (suc (suc (suc (suc s))))) h = absurd (omega arith)
+
+  -- ---- all records of a section fit
+  all-fit : (s : ℕ) → suc s < 6 → fitting bytes (suc s) (capacity (suc s)) ≡ rows bytes (suc s)
+  unfolding fitting capacity
+  all-fit s h =
+      let some = listed-some (suc s) h in
+      let room : rows bytes (suc s) ≤ most (suc s) * listed (suc s) / listed (suc s) = le-div-iff-mul-le {k = listed (suc s)} some .1 (mul-le-mul-right (listed (suc s)) (rows-most s h)) in
+      rw (within-yes 1 5 (suc s) (omega arith, omega arith)) (omega (arith, room))
+
+  pub section-block : (s n : ℕ) → suc s < 6 → n ≡ capacity (suc s) → lent n (records bytes (suc s) (fitting bytes (suc s) n)) ≡ block (unpacked bytes) (suc s)
+  unfolding block
+  section-block s n h e =
+      ap (λ (m : ℕ). lent m (records bytes (suc s) (fitting bytes (suc s) m))) e
+      ∙ ap (λ (m : ℕ). lent (capacity (suc s)) (records bytes (suc s) m)) (all-fit s h)
+      ∙ ap (lent (capacity (suc s))) (sym (list-is s h))
+
+  delays-whole : length (unpacked bytes .delays) ≡ 4
+  unfolding unpacked
+  delays-whole = length-delays bytes
+
+  -- ---- so the network on the sheet is the table's
+  pub held : Held (unpacked bytes)
+  held = record {
+    delays = delays-whole;
+    whole = λ s h. ap length (list-is s h) ∙ length-records bytes (suc s) (rows bytes (suc s)) ∙ ap (λ (n : ℕ). n * listed (suc s)) (sym (count-read bytes s h));
+    few = λ s h. rw (count-read bytes s h) (rows-most s h);
+    gaps = λ i h.
+        let row : i < rows bytes 2 = rw (count-read bytes 1 (omega arith)) at h in
+        omega (arith, number-read bytes 1 i 1 (omega arith) row (omega (arith, listed-is 2)), vl-row bytes sound i row);
+  }
+
+  pub network-read : networkOn (sheetOf (unpacked bytes)) ≡ networkIn bytes
+  unfolding networkIn
+  network-read = network-same (unpacked bytes) held
+
+-- ---- the steps of filling
+pub head-put : (s t head bytes : List ℕ) → length s ≡ 8137 → head ≡ block (unpacked bytes) 0 → t ≡ head ++ drop 9 s
+    → (take 9 t ≡ block (unpacked bytes) 0) × (length t ≡ 8137)
+unfolding block unpacked
+head-put s t head bytes long is e =
+    let whole : length head ≡ 9 = omega (arith, ap length is, length-append (delaysOf bytes) (recordsIn (unpacked bytes) 1 ∷ recordsIn (unpacked bytes) 2 ∷ recordsIn (unpacked bytes) 3 ∷ recordsIn (unpacked bytes) 4 ∷ recordsIn (unpacked bytes) 5 ∷ []), length-delays bytes) in (
+      ap₂ (λ (n : ℕ) (l : List ℕ). take n l) (sym whole) e ∙ take-append-seam head (drop 9 s) ∙ is,
+      omega (arith, ap length e, length-append head (drop 9 s), length-drop 9 s),
+    )
+
+pub section-put : (bytes : List ℕ) → tableAnswer bytes .number ≡ 0 → (k a b : ℕ) (s t : List ℕ) → take a s ≡ blocks (unpacked bytes) (suc k) → length s ≡ 8137
+    → a ≤ b → b ≤ 8137 → (suc k < 6) × (b - a ≡ capacity (suc k))
+    → t ≡ take a s ++ (lent (b - a) (records bytes (suc k) (fitting bytes (suc k) (b - a))) ++ drop b s)
+    → (take b t ≡ blocks (unpacked bytes) (suc k) ++ block (unpacked bytes) (suc k)) × (length t ≡ 8137)
+section-put bytes none-given k a b s t front long low high size e =
+    let sound = own-sound bytes none-given in
+    let is = section-block bytes sound k (b - a) (size .0) (size .1) in
+    let p = lent (b - a) (records bytes (suc k) (fitting bytes (suc k) (b - a))) in
+    let whole : length p ≡ b - a = omega (arith, ap length is, length-block (unpacked bytes) (held bytes sound) (suc k) (size .0), size .1) in
+    let next = put-next s t p (blocks (unpacked bytes) (suc k)) a b front low (omega arith) whole e in
+    (next .0 ∙ ap (λ (r : List ℕ). blocks (unpacked bytes) (suc k) ++ r) is, omega (arith, next .1))
+
+-- ---- the answer and the sheet that is left
+some-number : (n : ℕ) → ltb 0 n ≡ true → 0 < n
+some-number zero e = absurd (false≢true e)
+some-number (suc n) e = omega arith
+
+no-number : (n : ℕ) → ltb 0 n ≡ false → n ≡ 0
+no-number zero e = refl
+no-number (suc n) e = absurd (true≢false (sym (lt-ltb 0 (suc n) (omega arith)) ∙ e))
+
+pub zeros-left : (bytes out : List ℕ) → 0 < readAnswer bytes .number → out ≡ replicate 8137 0 → out ≡ readSheet bytes
+unfolding readSheet
+zeros-left bytes out h e = rw (ne-eqb (readAnswer bytes .number) 0 (λ z. omega arith), places-are .end) e
+
+pub refused-read : (bytes out : List ℕ) (a : Answer) → a ≡ tableAnswer bytes → ltb 0 (a .number) ≡ true → out ≡ replicate 8137 0
+    → (a ≡ readAnswer bytes) × (out ≡ readSheet bytes)
+unfolding tableAnswer
+refused-read bytes out a e t zeros =
+    let more = some-number (a .number) t in
+    let is = e ∙ own-refused bytes (rw e at more) in
+    (is, zeros-left bytes out (rw is at more) zeros)
+
+pub none-given : (bytes : List ℕ) (a : Answer) → a ≡ tableAnswer bytes → ltb 0 (a .number) ≡ false → tableAnswer bytes .number ≡ 0
+none-given bytes a e t = ap (λ (x : Answer). x .number) (sym e) ∙ no-number (a .number) t
+
+module _ (bytes sheet : List ℕ) (accepts : tableAnswer bytes .number ≡ 0) (filled : sheet ≡ sheetOf (unpacked bytes)) where
+  pub sheet-ranges : Ranges (networkOn sheet)
+  sheet-ranges = let sound = own-sound bytes accepts in rw (filled, network-read bytes sound) (sound-ranges bytes sound)
+
+  pub answer-is : (b : Answer) → b ≡ firstGiven (answer5 (networkOn sheet) ∷ answer6 (networkOn sheet) ∷ []) → b ≡ readAnswer bytes
+  unfolding tableAnswer
+  answer-is b e =
+      let same : networkOn sheet ≡ networkIn bytes = ap networkOn filled ∙ network-read bytes (own-sound bytes accepts) in
+      e ∙ ap (λ (net : Network). firstGiven (answer5 net ∷ answer6 net ∷ [])) same ∙ sym (own-accepted bytes accepts .1)
+
+  pub refused-left : (out : List ℕ) (b : Answer) → b ≡ firstGiven (answer5 (networkOn sheet) ∷ answer6 (networkOn sheet) ∷ []) → ltb 0 (b .number) ≡ true
+      → out ≡ replicate (length sheet) 0 → (b ≡ readAnswer bytes) × (out ≡ readSheet bytes)
+  unfolding sheetOf
+  refused-left out b e t zeros =
+      let is = answer-is b e in
+      let long = ap length filled ∙ length-blocks (unpacked bytes) (held bytes (own-sound bytes accepts)) 6 (omega arith) ∙ places-are .end in
+      (is, zeros-left bytes out (rw is at (some-number (b .number) t)) (zeros ∙ ap (λ (n : ℕ). replicate n 0) long))
+
+  pub accepted-left : (b : Answer) → b ≡ firstGiven (answer5 (networkOn sheet) ∷ answer6 (networkOn sheet) ∷ []) → ltb 0 (b .number) ≡ false
+      → (b ≡ readAnswer bytes) × (sheet ≡ readSheet bytes)
+  unfolding readSheet
+  accepted-left b e t =
+      let is = answer-is b e in
+      (is, rw (eq-eqb (readAnswer bytes .number) 0 (ap (λ (x : Answer). x .number) (sym is) ∙ no-number (b .number) t)) filled)
+
+-- ---- the sheet of an accepted table
+pub good-sheet : (bytes sheet : List ℕ) → readAnswer bytes ≡ accepted → sheet ≡ readSheet bytes → (networkOn sheet ≡ networkIn bytes) × Good sheet
+unfolding readSheet
+good-sheet bytes sheet e is =
+    let filled : sheet ≡ sheetOf (unpacked bytes) = is ∙ rw (eq-eqb (readAnswer bytes .number) 0 (ap (λ (x : Answer). x .number) e)) in
+    let same : networkOn sheet ≡ networkIn bytes = ap networkOn filled ∙ network-read bytes (read-sound bytes e) in
+    (same, record { ranges = rw same (read-ranges bytes e); references = rw same (read-references bytes e) })

@@ -1,0 +1,61 @@
+// Fills a sheet from a table that 1 to 4 are not given to: the delays and the counts, and each section's records at their place.
+// A part of the sheet is lent to the unpacker at a time, so that no list stands anywhere else.
+use layout::sizes;
+ghost use mathlib.Core.List.{_++_};
+ghost use mathlib.Core.Path.{_≡_};
+ghost use Prim.Native.Nat.{_≤_, _-_};
+ghost use lib.ListN.{length, take, drop};
+ghost use Rattle.table.specs.Sections.{records, lent};
+ghost use Rattle.table.specs.RoundTrip.{unpacked};
+ghost use Rattle.unpacker.specs.Unpacking.{tableAnswer, fitting};
+ghost use Rattle.sheet.specs.Sheet.{block, sheetOf};
+
+pub fn load(table: &[u8], sheet: &mut [u64])
+    requires { ⌜ (tableAnswer (now table) .number ≡ 0) × (length (now sheet) ≡ 8137) ⌝ }
+    ensures { λ _. ⌜ now (sheet .exit) ≡ sheetOf (unpacked (now (table .entry))) ⌝ }
+{
+    put_head(sheet, head_of(table));
+    put_section(table, 1, sheet, sizes::SYSTEMS_AT, sizes::VLS_AT);
+    put_section(table, 2, sheet, sizes::VLS_AT, sizes::STREAMS_AT);
+    put_section(table, 3, sheet, sizes::STREAMS_AT, sizes::PORTS_AT);
+    put_section(table, 4, sheet, sizes::PORTS_AT, sizes::HOPS_AT);
+    put_section(table, 5, sheet, sizes::HOPS_AT, sizes::SHEET);
+}
+
+// The delays and the counts.
+fn head_of(table: &[u8]) -> [u64; 9]
+    ensures { λ r. ⌜ r ≡ block (unpacked (now (table .entry))) 0 ⌝ }
+{
+    let d = unpacker::delays_of(table);
+    let n = unpacker::counts_of(table);
+    [
+        d[0],
+        d[1],
+        d[2],
+        d[3],
+        n[1] as u64,
+        n[2] as u64,
+        n[3] as u64,
+        n[4] as u64,
+        n[5] as u64,
+    ]
+}
+
+fn put_head(sheet: &mut [u64], head: [u64; 9])
+    requires { ⌜ 9 ≤ length (now sheet) ⌝ }
+    ensures { λ _. ⌜ now (sheet .exit) ≡ head ++ drop 9 (now (sheet .entry)) ⌝ }
+{
+    let mut k = 0;
+    while k < 9 {
+        sheet[k] = head[k];
+        k += 1;
+    }
+}
+
+// The records of a section, from place a to before place b.
+fn put_section(table: &[u8], section: usize, sheet: &mut [u64], a: usize, b: usize)
+    requires { ⌜ (a ≤ b) × (b ≤ length (now sheet)) ⌝ }
+    ensures { λ _. ⌜ now (sheet .exit) ≡ take a (now (sheet .entry)) ++ (lent (b - a) (records (now (table .entry)) section (fitting (now (table .entry)) section (b - a))) ++ drop b (now (sheet .entry))) ⌝ }
+{
+    unpacker::fill_section(table, section, &mut sheet[a..b]);
+}

@@ -1,0 +1,179 @@
+-- The sheet of a table's lists: each block is as long as its section's capacity, so that it stands at its place; and the network on it is the one that the lists describe.
+-- Assumes nothing.
+use Prim.Native.Nat.{ℕ, zero, suc, _+_, _*_, _%_, _≤_, _<_, min}
+use mathlib.Core.List.{List, [], _∷_, _++_}
+use mathlib.Core.Path.{_≡_, refl, sym, ap, ap₂, _∙_}
+use native.Mathlib.Decide.{decLt}
+use native.Mathlib.Nat.{mul-le-mul-right, le-of-suc-le-suc}
+use native.Mathlib.Omega.{arith}
+use lib.Dec.{eqb}
+use lib.ListN.{length, getD, length-append, List·getD-append}
+use Rattle.base.specs.Tabulate.{tabulate}
+use Rattle.base.proofs.TabulateLaws.{tabulate-same}
+use Rattle.frame.specs.Tick.{perMs}
+use Rattle.layout.specs.Rows.{listed}
+use Rattle.layout.specs.Sizes.{most, capacity, place}
+use Rattle.layout.proofs.LayoutLaws.{listed-is}
+use Rattle.network.specs.declared.EndSystem.{EndSystem}
+use Rattle.network.specs.declared.Vl.{Vl}
+use Rattle.network.specs.declared.Stream.{Stream}
+use Rattle.network.specs.declared.Port.{Port}
+use Rattle.network.specs.declared.Hop.{Hop}
+use Rattle.table.specs.Sections.{lent}
+use Rattle.table.specs.Write.{Lists, listFor, recordsIn}
+use Rattle.table.specs.Decoded.{numberAt, ticksAt, parentOf, systemIn, vlIn, streamIn, portIn, hopIn, networkOf}
+use Rattle.table.proofs.LentLaws.{length-lent, lent-at}
+use Rattle.sheet.specs.Sheet.{countOn, numberOn, systemOn, vlOn, streamOn, portOn, hopOn, networkOn, block, blocks, sheetOf}
+
+-- the number behind a list
+behind : (l r : List ℕ) (j : ℕ) → getD (l ++ r) (length l + j) 0 ≡ getD r j 0
+behind [] r j = let e : 0 + j ≡ j = omega arith in ap (λ (i : ℕ). getD r i 0) e
+behind (x ∷ l) r j = let e : suc (length l) + j ≡ suc (length l + j) = omega arith in ap (λ (i : ℕ). getD (x ∷ (l ++ r)) i 0) e ∙ behind l r j
+
+-- lists of whole records that a sheet has room for
+pub record Held (ls : Lists) : Type 0 where
+  pub delays : length (ls .delays) ≡ 4
+  pub whole : (s : ℕ) → suc s < 6 → length (listFor ls (suc s)) ≡ recordsIn ls (suc s) * listed (suc s)
+  pub few : (s : ℕ) → suc s < 6 → recordsIn ls (suc s) ≤ most (suc s)
+  pub gaps : (i : ℕ) → i < recordsIn ls 2 → numberAt ls 2 i 1 < 256
+
+module _ (ls : Lists) (held : Held ls) where
+  list-fits : (s : ℕ) → suc s < 6 → length (listFor ls (suc s)) ≤ capacity (suc s)
+  unfolding capacity
+  list-fits s h = omega (arith, held .whole s h, mul-le-mul-right (listed (suc s)) (held .few s h))
+
+  pub length-block : (s : ℕ) → s < 6 → length (block ls s) ≡ capacity s
+  unfolding block capacity
+  length-block zero h =
+      omega (arith, held .delays, length-append (ls .delays) (recordsIn ls 1 ∷ recordsIn ls 2 ∷ recordsIn ls 3 ∷ recordsIn ls 4 ∷ recordsIn ls 5 ∷ []))
+  length-block (suc s) h = length-lent (capacity (suc s)) (listFor ls (suc s)) (list-fits s h)
+
+  pub length-blocks : (s : ℕ) → s ≤ 6 → length (blocks ls s) ≡ place s
+  unfolding blocks place
+  length-blocks zero h = refl
+  length-blocks (suc s) h = omega (arith, length-append (blocks ls s) (block ls s), length-blocks s (omega arith), length-block s (omega arith))
+
+  place-behind : (s t : ℕ) → s < t → place s + capacity s ≤ place t
+  unfolding place
+  place-behind s zero h = absurd (omega arith)
+  place-behind s (suc t) h = elim (decLt s t) [
+    | yes l ↦ omega (arith, place-behind s t l)
+    | no n ↦ let e : s ≡ t = omega arith in rw e (omega arith)
+  ]
+
+  block-at : (t s j : ℕ) → s < t → t ≤ 6 → j < capacity s → getD (blocks ls t) (place s + j) 0 ≡ getD (block ls s) j 0
+  unfolding blocks
+  block-at zero s j h l m = absurd (omega arith)
+  block-at (suc t) s j h l m = elim (decLt s t) [
+    | yes k ↦
+        List·getD-append (blocks ls t) (block ls t) 0 (place s + j) (omega (arith, length-blocks t (omega arith), place-behind s t k))
+        ∙ block-at t s j k (omega arith) m
+    | no n ↦
+        let e : s ≡ t = omega arith in
+        rw (e, ← length-blocks t (omega arith)) (behind (blocks ls t) (block ls t) j)
+  ]
+
+  -- ---- the counts, the delays and the numbers
+  head-at : (j : ℕ) → j < 9 → getD (sheetOf ls) j 0 ≡ getD (block ls 0) j 0
+  unfolding sheetOf place capacity
+  head-at j h = let e : 0 + j ≡ j = omega arith in ap (λ (i : ℕ). getD (blocks ls 6) i 0) (sym e) ∙ block-at 6 0 j (omega arith) (omega arith) (omega arith)
+
+  delay-at : (k : ℕ) → k < 4 → getD (sheetOf ls) k 0 ≡ getD (ls .delays) k 0
+  unfolding block
+  delay-at k h = head-at k (omega arith) ∙ List·getD-append (ls .delays) _ 0 k (omega (arith, held .delays))
+
+  counts : List ℕ
+  counts = recordsIn ls 1 ∷ recordsIn ls 2 ∷ recordsIn ls 3 ∷ recordsIn ls 4 ∷ recordsIn ls 5 ∷ []
+
+  count-stored : (k : ℕ) → k < 5 → getD (sheetOf ls) (4 + k) 0 ≡ getD counts k 0
+  unfolding block counts
+  count-stored k h = head-at (4 + k) (omega arith) ∙ ap (λ (n : ℕ). getD (ls .delays ++ counts) (n + k) 0) (sym (held .delays)) ∙ behind (ls .delays) counts k
+
+  count-on : (s : ℕ) → suc s < 6 → getD (sheetOf ls) (3 + suc s) 0 ≡ recordsIn ls (suc s) → countOn (sheetOf ls) (suc s) ≡ recordsIn ls (suc s)
+  unfolding countOn
+  count-on s h e = omega (arith, e, held .few s h)
+
+  number-on : (s i k : ℕ) → suc s < 6 → i < recordsIn ls (suc s) → k < listed (suc s) → numberOn (sheetOf ls) (suc s) i k ≡ numberAt ls (suc s) i k
+  unfolding numberOn numberAt sheetOf block
+  number-on s i k h l m =
+      let inside : i * listed (suc s) + k < length (listFor ls (suc s)) = omega (arith, held .whole s h, mul-le-mul-right (listed (suc s)) l) in
+      let e : place (suc s) + i * listed (suc s) + k ≡ place (suc s) + (i * listed (suc s) + k) = omega arith in
+      ap (λ (j : ℕ). getD (blocks ls 6) j 0) e
+      ∙ block-at 6 (suc s) (i * listed (suc s) + k) h (omega arith) (omega (arith, list-fits s h))
+      ∙ lent-at (capacity (suc s)) (listFor ls (suc s)) (i * listed (suc s) + k) inside
+
+  -- ---- the records
+  number : (s i k m : ℕ) → suc s < 6 → i < recordsIn ls (suc s) → listed (suc s) ≡ m → k < m → numberOn (sheetOf ls) (suc s) i k ≡ numberAt ls (suc s) i k
+  number s i k m h l e f = number-on s i k h l (omega (arith, e))
+
+  system-same : (i : ℕ) → i < recordsIn ls 1 → systemOn (sheetOf ls) i ≡ systemIn ls i
+  unfolding systemOn systemIn
+  system-same i h = let n0 = ap ticksAt (number 0 i 0 1 (omega arith) h (listed-is 1) (omega arith)) in λ j. record { perbyte = n0 j }
+
+  vl-same : (i : ℕ) → i < recordsIn ls 2 → vlOn (sheetOf ls) i ≡ vlIn ls i
+  unfolding vlOn vlIn
+  vl-same i h =
+      let here : (k : ℕ) → k < 4 → numberOn (sheetOf ls) 2 i k ≡ numberAt ls 2 i k = λ k l. number 1 i k 4 (omega arith) h (listed-is 2) l in
+      let n0 = here 0 (omega arith) in
+      let ms : numberOn (sheetOf ls) 2 i 1 % 256 ≡ numberAt ls 2 i 1 = omega (arith, here 1 (omega arith), held .gaps i h) in
+      let n1 = ap (λ (n : ℕ). perMs * n) ms in
+      let n2 = here 2 (omega arith) in
+      let n3 = here 3 (omega arith) in
+      λ j. record { system = n0 j; gap = n1 j; sublinks = n2 j; lmax = n3 j }
+
+  stream-same : (i : ℕ) → i < recordsIn ls 3 → streamOn (sheetOf ls) i ≡ streamIn ls i
+  unfolding streamOn streamIn
+  stream-same i h =
+      let here : (k : ℕ) → k < 7 → numberOn (sheetOf ls) 3 i k ≡ numberAt ls 3 i k = λ k l. number 2 i k 7 (omega arith) h (listed-is 3) l in
+      let n0 = here 0 (omega arith) in
+      let n1 = here 1 (omega arith) in
+      let n2 = ap (λ (n : ℕ). eqb n 1) (here 2 (omega arith)) in
+      let n3 = here 3 (omega arith) in
+      let n4 = here 4 (omega arith) in
+      let n5 = here 5 (omega arith) in
+      let n6 = here 6 (omega arith) in
+      λ j. record { vl = n0 j; sublink = n1 j; sampling = n2 j; size = n3 j; least = n4 j; period = n5 j; jitter = n6 j }
+
+  port-same : (i : ℕ) → i < recordsIn ls 4 → portOn (sheetOf ls) i ≡ portIn ls i
+  unfolding portOn portIn
+  port-same i h =
+      let here : (k : ℕ) → k < 3 → numberOn (sheetOf ls) 4 i k ≡ numberAt ls 4 i k = λ k l. number 3 i k 3 (omega arith) h (listed-is 4) l in
+      let n0 = ap ticksAt (here 0 (omega arith)) in
+      let n1 = here 1 (omega arith) in
+      let n2 = here 2 (omega arith) in
+      λ j. record { perbyte = n0 j; least = n1 j; greatest = n2 j }
+
+  hop-same : (i : ℕ) → i < recordsIn ls 5 → hopOn (sheetOf ls) i ≡ hopIn ls i
+  unfolding hopOn hopIn
+  hop-same i h =
+      let here : (k : ℕ) → k < 3 → numberOn (sheetOf ls) 5 i k ≡ numberAt ls 5 i k = λ k l. number 4 i k 3 (omega arith) h (listed-is 5) l in
+      let n0 = here 0 (omega arith) in
+      let n1 = here 1 (omega arith) in
+      let n2 = ap parentOf (here 2 (omega arith)) in
+      λ j. record { vl = n0 j; port = n1 j; parent = n2 j }
+
+  -- ---- the network
+  pub network-same : networkOn (sheetOf ls) ≡ networkOf ls
+  unfolding networkOn networkOf counts
+  network-same =
+      let sheet = sheetOf ls in
+      let d0 = delay-at 0 (omega arith) in
+      let d1 = delay-at 1 (omega arith) in
+      let d2 = delay-at 2 (omega arith) in
+      let d3 = delay-at 3 (omega arith) in
+      let systems = ap (tabulate (systemOn sheet)) (count-on 0 (omega arith) (count-stored 0 (omega arith))) ∙ tabulate-same (systemOn sheet) (systemIn ls) (recordsIn ls 1) system-same in
+      let vls = ap (tabulate (vlOn sheet)) (count-on 1 (omega arith) (count-stored 1 (omega arith))) ∙ tabulate-same (vlOn sheet) (vlIn ls) (recordsIn ls 2) vl-same in
+      let streams = ap (tabulate (streamOn sheet)) (count-on 2 (omega arith) (count-stored 2 (omega arith))) ∙ tabulate-same (streamOn sheet) (streamIn ls) (recordsIn ls 3) stream-same in
+      let ports = ap (tabulate (portOn sheet)) (count-on 3 (omega arith) (count-stored 3 (omega arith))) ∙ tabulate-same (portOn sheet) (portIn ls) (recordsIn ls 4) port-same in
+      let hops = ap (tabulate (hopOn sheet)) (count-on 4 (omega arith) (count-stored 4 (omega arith))) ∙ tabulate-same (hopOn sheet) (hopIn ls) (recordsIn ls 5) hop-same in
+      λ i. record {
+        sendLeast = d0 i;
+        sendGreatest = d1 i;
+        receiveLeast = d2 i;
+        receiveGreatest = d3 i;
+        systems = systems i;
+        vls = vls i;
+        streams = streams i;
+        ports = ports i;
+        hops = hops i;
+      }
