@@ -1,24 +1,17 @@
 -- The network that lists describe, number by number: how many rows it has of each kind, and each field of each row, as the number in the list that it is.
 -- Assumes nothing.
-use Prim.Native.Nat.{ℕ, suc, _+_, _*_, _/_, _≤_, _<_}
-use mathlib.Core.List.{List}
-use mathlib.Core.Option.{none, some}
+use Prim.Native.Nat.{ℕ, _*_, _<_}
 use mathlib.Core.Path.{_≡_, refl, ap}
-use native.Mathlib.Nat.{add-zero}
-use native.Mathlib.Omega.{arith}
-use lib.Dec.{eqb}
-use lib.ListN.{length, getD, List·getD-eq-default}
+use lib.ListN.{length, getD}
 use Rattle.base.proofs.TabulateLaws.{length-tabulate, tabulate-at}
 use Rattle.frame.specs.Tick.{perMs}
-use Rattle.layout.proofs.LayoutLaws.{listed-is}
 use Rattle.network.specs.declared.EndSystem.{EndSystem}
 use Rattle.network.specs.declared.Vl.{Vl}
 use Rattle.network.specs.declared.Stream.{Stream}
 use Rattle.network.specs.declared.Port.{Port}
-use Rattle.network.specs.declared.Hop.{Hop}
-use Rattle.network.specs.Network.{parentIn, noSystem, noVl, noStream, noPort, noHop, systemAt, vlAt, streamAt, portAt, hopAt, parentAt}
-use Rattle.table.specs.Write.{Lists, listFor, recordsIn}
-use Rattle.table.specs.Decoded.{numberAt, ticksAt, parentOf, systemIn, vlIn, streamIn, portIn, hopIn, networkOf}
+use Rattle.network.specs.Network.{noSystem, noVl, noStream, noPort, systemAt, vlAt, streamAt, portAt}
+use Rattle.table.specs.Write.{Lists, recordsIn}
+use Rattle.table.specs.Decoded.{numberAt, ticksAt, systemIn, vlIn, streamIn, portIn, hopIn, networkOf}
 
 -- ---- the delays, and how many rows there are
 module _ (ls : Lists) where
@@ -76,10 +69,6 @@ module _ (ls : Lists) (i : ℕ) where
     unfolding networkOf
     vl-there = tabulate-at (vlIn ls) (recordsIn ls 2) i noVl h
 
-    pub vl-system : vlAt (networkOf ls) i .system ≡ numberAt ls 2 i 0
-    unfolding vlIn
-    vl-system = ap (λ (x : Vl). x .system) vl-there
-
     pub vl-gap : vlAt (networkOf ls) i .gap ≡ perMs * numberAt ls 2 i 1
     unfolding vlIn
     vl-gap = ap (λ (x : Vl). x .gap) vl-there
@@ -98,18 +87,6 @@ module _ (ls : Lists) (i : ℕ) where
     pub stream-there : streamAt (networkOf ls) i ≡ streamIn ls i
     unfolding networkOf
     stream-there = tabulate-at (streamIn ls) (recordsIn ls 3) i noStream h
-
-    pub stream-vl : streamAt (networkOf ls) i .vl ≡ numberAt ls 3 i 0
-    unfolding streamIn
-    stream-vl = ap (λ (x : Stream). x .vl) stream-there
-
-    pub stream-sub-link : streamAt (networkOf ls) i .sublink ≡ numberAt ls 3 i 1
-    unfolding streamIn
-    stream-sub-link = ap (λ (x : Stream). x .sublink) stream-there
-
-    pub stream-sampling : streamAt (networkOf ls) i .sampling ≡ eqb (numberAt ls 3 i 2) 1
-    unfolding streamIn
-    stream-sampling = ap (λ (x : Stream). x .sampling) stream-there
 
     pub stream-size : streamAt (networkOf ls) i .size ≡ numberAt ls 3 i 3
     unfolding streamIn
@@ -145,81 +122,3 @@ module _ (ls : Lists) (i : ℕ) where
     pub port-delay-greatest : portAt (networkOf ls) i .greatest ≡ numberAt ls 4 i 2
     unfolding portIn
     port-delay-greatest = ap (λ (x : Port). x .greatest) port-there
-
--- ---- hops
-module _ (ls : Lists) (i : ℕ) where
-  pub hop-past : recordsIn ls 5 ≤ i → hopAt (networkOf ls) i ≡ noHop
-  hop-past h = List·getD-eq-default (networkOf ls .hops) noHop {n = i} (omega (arith, hops-are ls))
-
-  module _ (h : i < recordsIn ls 5) where
-    pub hop-there : hopAt (networkOf ls) i ≡ hopIn ls i
-    unfolding networkOf
-    hop-there = tabulate-at (hopIn ls) (recordsIn ls 5) i noHop h
-
-    pub hop-vl : hopAt (networkOf ls) i .vl ≡ numberAt ls 5 i 0
-    unfolding hopIn
-    hop-vl = ap (λ (x : Hop). x .vl) hop-there
-
-    pub hop-port : hopAt (networkOf ls) i .port ≡ numberAt ls 5 i 1
-    unfolding hopIn
-    hop-port = ap (λ (x : Hop). x .port) hop-there
-
-    pub hop-parent : parentAt (networkOf ls) i ≡ parentIn (parentOf (numberAt ls 5 i 2))
-    unfolding hopIn
-    hop-parent = ap (λ (x : Hop). parentIn (x .parent)) hop-there
-
--- a stored 0 is no parent, and another number the row before it
-pub parent-none : parentIn (parentOf 0) ≡ none
-unfolding parentOf
-parent-none = refl
-
-pub parent-some : (g : ℕ) → parentIn (parentOf (suc g)) ≡ some g
-unfolding parentOf
-parent-some g = refl
-
--- ---- the same of the lists themselves: a record of a section has `listed` numbers
-module _ (ls : Lists) where
-  pub systems-records : recordsIn ls 1 ≡ length (ls .systems)
-  unfolding recordsIn listFor
-  systems-records = rw (listed-is 1) (omega arith)
-
-  pub vls-records : recordsIn ls 2 ≡ length (ls .vls) / 4
-  unfolding recordsIn listFor
-  vls-records = rw (listed-is 2)
-
-  pub streams-records : recordsIn ls 3 ≡ length (ls .streams) / 7
-  unfolding recordsIn listFor
-  streams-records = rw (listed-is 3)
-
-  pub ports-records : recordsIn ls 4 ≡ length (ls .ports) / 3
-  unfolding recordsIn listFor
-  ports-records = rw (listed-is 4)
-
-  pub hops-records : recordsIn ls 5 ≡ length (ls .hops) / 3
-  unfolding recordsIn listFor
-  hops-records = rw (listed-is 5)
-
-module _ (ls : Lists) (i k : ℕ) where
-  pub system-number : numberAt ls 1 i k ≡ getD (ls .systems) (i * 1 + k) 0
-  unfolding numberAt listFor
-  system-number = rw (listed-is 1)
-
-  pub vl-number : numberAt ls 2 i k ≡ getD (ls .vls) (i * 4 + k) 0
-  unfolding numberAt listFor
-  vl-number = rw (listed-is 2)
-
-  pub stream-number : numberAt ls 3 i k ≡ getD (ls .streams) (i * 7 + k) 0
-  unfolding numberAt listFor
-  stream-number = rw (listed-is 3)
-
-  pub port-number : numberAt ls 4 i k ≡ getD (ls .ports) (i * 3 + k) 0
-  unfolding numberAt listFor
-  port-number = rw (listed-is 4)
-
-  pub hop-number : numberAt ls 5 i k ≡ getD (ls .hops) (i * 3 + k) 0
-  unfolding numberAt listFor
-  hop-number = rw (listed-is 5)
-
--- the first number of a record
-pub first-number : (l : List ℕ) (a : ℕ) → getD l (a + 0) 0 ≡ getD l a 0
-first-number l a = ap (λ (x : ℕ). getD l x 0) (add-zero a)

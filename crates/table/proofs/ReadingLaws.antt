@@ -158,27 +158,6 @@ module _ (bytes : List ℕ) (n : Lengths) (big : Roomy n) where
       go none e = refl
       go (some test) e = absurd (Option·some-ne-none (answer 2 0 0 test) e)
 
-  -- ---- a refusal of the unpacker is the reader's
-  pub refused-same : 0 < unpackAnswer bytes n .number → unpackAnswer bytes n ≡ readAnswer bytes
-  unfolding unpackAnswer readAnswer firstGiven
-  refused-same = go (answer1 bytes) (answer2 bytes) (answer3 bytes) (answer4 bytes) refl
-    where
-      go : (o1 o2 o3 o4 : Option Answer) → answer2 bytes ≡ o2 → 0 < firstGiven (o1 ∷ o2 ∷ o3 ∷ o4 ∷ answer11 bytes n ∷ []) .number
-          → firstGiven (o1 ∷ o2 ∷ o3 ∷ o4 ∷ answer11 bytes n ∷ []) ≡ firstGiven (o1 ∷ o2 ∷ o3 ∷ o4 ∷ answer5 (networkIn bytes) ∷ answer6 (networkIn bytes) ∷ [])
-      go (some a) o2 o3 o4 e h = refl
-      go none (some a) o3 o4 e h = refl
-      go none none (some a) o4 e h = refl
-      go none none none (some a) e h = refl
-      go none none none none e h = absurd (omega (arith, rw (enough (header-good e)) at h))
-
-  -- ---- where it accepts, the reader goes on with 5 and 6
-  pub unpack-accepts : unpackAnswer bytes n .number ≤ 0
-      → (unpackAnswer bytes n ≡ accepted) × (readAnswer bytes ≡ firstGiven (answer5 (networkIn bytes) ∷ answer6 (networkIn bytes) ∷ []))
-  unfolding unpackAnswer readAnswer firstGiven
-  unpack-accepts h =
-      let p = four bytes (answer11 bytes n ∷ []) (omega arith) in
-      (rw (p .none1, p .none2, p .none3, p .none4, enough (header-good (p .none2))), rw (p .none1, p .none2, p .none3, p .none4))
-
 -- ---- the table's own answer, 1 to 4: its refusal is the reader's, and where it accepts, the reader goes on with 5 and 6
 module _ (bytes : List ℕ) where
   pub own-refused : 0 < firstGiven (answer1 bytes ∷ answer2 bytes ∷ answer3 bytes ∷ answer4 bytes ∷ []) .number
