@@ -12,8 +12,7 @@ use Rattle.base.proofs.TabulateLaws.{length-tabulate, tabulate-at}
 use Rattle.frame.proofs.TickLaws.{per-ms-is}
 use Rattle.layout.specs.Rows.{listed}
 use Rattle.layout.specs.Sizes.{place}
-use Rattle.layout.proofs.LayoutLaws.{listed-is}
-use Rattle.layout.proofs.SizeLaws.{most-are, places-are}
+use Rattle.layout.proofs.SizeLaws.{most-are}
 use Rattle.network.specs.declared.EndSystem.{EndSystem}
 use Rattle.network.specs.declared.Vl.{Vl}
 use Rattle.network.specs.declared.Stream.{Stream}
@@ -91,48 +90,48 @@ module _ (sheet : List ℕ) where
   unfolding numberOn
   number s at m p l i k = rw (p, l)
 
-  pub system-read : (e x : ℕ) → e < length (networkOn sheet .systems) → x ≡ ticksAt (getD sheet (9 + e * 1) 0)
+  pub system-read : (at m : ℕ) → place 1 ≡ at → listed 1 ≡ m → (e x : ℕ) → e < length (networkOn sheet .systems) → x ≡ ticksAt (getD sheet (at + e * m) 0)
       → _≡_ {A = EndSystem} (record { perbyte = x }) (systemAt (networkOn sheet) e)
   unfolding networkOn systemOn
-  system-read e x h is =
-      let same = is ∙ ap ticksAt (sym (first-number sheet (9 + e * 1)) ∙ number 1 9 1 (places-are .systems) (listed-is 1) e 0) in
+  system-read at m p l e x h is =
+      let same = is ∙ ap ticksAt (sym (first-number sheet (at + e * m)) ∙ number 1 at m p l e 0) in
       (λ i. record { perbyte = same i }) ∙ sym (tabulate-at (systemOn sheet) (countOn sheet 1) e noSystem (omega (arith, systems-are)))
 
-  pub vl-read : (v : ℕ) → v < length (networkOn sheet .vls)
+  pub vl-read : (at m : ℕ) → place 2 ≡ at → listed 2 ≡ m → (v : ℕ) → v < length (networkOn sheet .vls)
       → _≡_ {A = Vl}
       (record {
-        system = getD sheet (73 + v * 4) 0;
-        gap = 12500 * (getD sheet (73 + v * 4 + 1) 0 % 256);
-        sublinks = getD sheet (73 + v * 4 + 2) 0;
-        lmax = getD sheet (73 + v * 4 + 3) 0;
+        system = getD sheet (at + v * m) 0;
+        gap = 12500 * (getD sheet (at + v * m + 1) 0 % 256);
+        sublinks = getD sheet (at + v * m + 2) 0;
+        lmax = getD sheet (at + v * m + 3) 0;
       })
       (vlAt (networkOn sheet) v)
   unfolding networkOn vlOn
-  vl-read v h =
-      let here = number 2 73 4 (places-are .vls) (listed-is 2) v in
-      let system = sym (first-number sheet (73 + v * 4)) ∙ here 0 in
+  vl-read at m p l v h =
+      let here = number 2 at m p l v in
+      let system = sym (first-number sheet (at + v * m)) ∙ here 0 in
       let gap = ap₂ (λ (a b : ℕ). a * (b % 256)) (sym per-ms-is) (here 1) in
       let links = here 2 in
       let lmax = here 3 in
       (λ i. record { system = system i; gap = gap i; sublinks = links i; lmax = lmax i })
       ∙ sym (tabulate-at (vlOn sheet) (countOn sheet 2) v noVl (omega (arith, vls-are)))
 
-  pub stream-read : (s : ℕ) → s < length (networkOn sheet .streams) → (x : Bool) → x ≡ eqb (getD sheet (1097 + s * 7 + 2) 0) 1
+  pub stream-read : (at m : ℕ) → place 3 ≡ at → listed 3 ≡ m → (s : ℕ) → s < length (networkOn sheet .streams) → (x : Bool) → x ≡ eqb (getD sheet (at + s * m + 2) 0) 1
       → _≡_ {A = Stream}
       (record {
-        vl = getD sheet (1097 + s * 7) 0;
-        sublink = getD sheet (1097 + s * 7 + 1) 0;
+        vl = getD sheet (at + s * m) 0;
+        sublink = getD sheet (at + s * m + 1) 0;
         sampling = x;
-        size = getD sheet (1097 + s * 7 + 3) 0;
-        least = getD sheet (1097 + s * 7 + 4) 0;
-        period = getD sheet (1097 + s * 7 + 5) 0;
-        jitter = getD sheet (1097 + s * 7 + 6) 0;
+        size = getD sheet (at + s * m + 3) 0;
+        least = getD sheet (at + s * m + 4) 0;
+        period = getD sheet (at + s * m + 5) 0;
+        jitter = getD sheet (at + s * m + 6) 0;
       })
       (streamAt (networkOn sheet) s)
   unfolding networkOn streamOn
-  stream-read s h x is =
-      let here = number 3 1097 7 (places-are .streams) (listed-is 3) s in
-      let vl = sym (first-number sheet (1097 + s * 7)) ∙ here 0 in
+  stream-read at m p l s h x is =
+      let here = number 3 at m p l s in
+      let vl = sym (first-number sheet (at + s * m)) ∙ here 0 in
       let link = here 1 in
       let sampling = is ∙ ap (λ (n : ℕ). eqb n 1) (here 2) in
       let size = here 3 in
@@ -150,27 +149,27 @@ module _ (sheet : List ℕ) where
       })
       ∙ sym (tabulate-at (streamOn sheet) (countOn sheet 3) s noStream (omega (arith, streams-are)))
 
-  pub port-read : (p x : ℕ) → p < length (networkOn sheet .ports) → x ≡ ticksAt (getD sheet (4681 + p * 3) 0)
+  pub port-read : (at m : ℕ) → place 4 ≡ at → listed 4 ≡ m → (p x : ℕ) → p < length (networkOn sheet .ports) → x ≡ ticksAt (getD sheet (at + p * m) 0)
       → _≡_ {A = Port}
-      (record { perbyte = x; least = getD sheet (4681 + p * 3 + 1) 0; greatest = getD sheet (4681 + p * 3 + 2) 0 })
+      (record { perbyte = x; least = getD sheet (at + p * m + 1) 0; greatest = getD sheet (at + p * m + 2) 0 })
       (portAt (networkOn sheet) p)
   unfolding networkOn portOn
-  port-read p x h is =
-      let here = number 4 4681 3 (places-are .ports) (listed-is 4) p in
-      let speed = is ∙ ap ticksAt (sym (first-number sheet (4681 + p * 3)) ∙ here 0) in
+  port-read at m pl l p x h is =
+      let here = number 4 at m pl l p in
+      let speed = is ∙ ap ticksAt (sym (first-number sheet (at + p * m)) ∙ here 0) in
       let least = here 1 in
       let greatest = here 2 in
       (λ i. record { perbyte = speed i; least = least i; greatest = greatest i })
       ∙ sym (tabulate-at (portOn sheet) (countOn sheet 4) p noPort (omega (arith, ports-are)))
 
-  pub hop-read : (h : ℕ) → h < length (networkOn sheet .hops) → (x : Parent) → x ≡ parentOf (getD sheet (5065 + h * 3 + 2) 0)
+  pub hop-read : (at m : ℕ) → place 5 ≡ at → listed 5 ≡ m → (h : ℕ) → h < length (networkOn sheet .hops) → (x : Parent) → x ≡ parentOf (getD sheet (at + h * m + 2) 0)
       → _≡_ {A = Hop}
-      (record { vl = getD sheet (5065 + h * 3) 0; port = getD sheet (5065 + h * 3 + 1) 0; parent = x })
+      (record { vl = getD sheet (at + h * m) 0; port = getD sheet (at + h * m + 1) 0; parent = x })
       (hopAt (networkOn sheet) h)
   unfolding networkOn hopOn
-  hop-read h row x is =
-      let here = number 5 5065 3 (places-are .hops) (listed-is 5) h in
-      let vl = sym (first-number sheet (5065 + h * 3)) ∙ here 0 in
+  hop-read at m p l h row x is =
+      let here = number 5 at m p l h in
+      let vl = sym (first-number sheet (at + h * m)) ∙ here 0 in
       let port = here 1 in
       let parent = is ∙ ap parentOf (here 2) in
       (λ i. record { vl = vl i; port = port i; parent = parent i })
