@@ -1,7 +1,7 @@
 -- The code behind the demands. Each public routine that they speak of keeps its contract: every call ends and leaves what the routine's own
 -- clauses ensure; they ask nothing of the caller; and what they ensure of a call is the promise that the demands take up, no less, no more.
--- The routines are in crates/analysis/src/answers.rt, crates/reader/src/reading.rt, crates/unpacker/src/lib.rt and crates/writer/src/lib.rt;
--- `a` are the arguments of a call, `x` is its result and `ws` what it left in the lent places. Assumes nothing.
+-- The routines are in crates/analysis/src/answers.rt, crates/reader/src/reading.rt, crates/unpacker/src/lib.rt and
+-- crates/writer/src/lib.rt; `a` are the arguments of a call, `x` is its result and `ws` what it left in the lent places. Assumes nothing.
 use mathlib.Core.Logic.{_↔_}
 use mathlib.Core.Path.{_≡_}
 use lib.ListN.{length}
