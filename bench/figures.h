@@ -222,10 +222,9 @@ static Answer analyse(const uint8_t *table, size_t bytes, uint64_t *result, size
     Work w;
     memset(result, 0, room * sizeof *result);
     *rows = 0;
-    Answer a = check(table, bytes);
+    Answer a = read_table(table, bytes, &w.net);
     if (a.number != 0)
         return a;
-    unpack(table, bytes, &w.net);
     size_t late = late_system(&w.net);
     if (late < w.net.rows[1])
         return (Answer){7, 1, late};

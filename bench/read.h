@@ -1,5 +1,5 @@
 /* A twin in C of crates/bits, crates/layout, crates/unpacker and crates/reader: a table unpacked bit by bit, 01's answers 1 to 6.
-   As there, each row is read twice, to test it and to convert it, and the reader unpacks to lists of its own. */
+   As there, each row is read twice, to test it and to convert it, and the reader hands out the lists that it filled. */
 #ifndef READ_H
 #define READ_H
 
@@ -236,12 +236,11 @@ static Answer references(const Lists *l)
     return ACCEPTED;
 }
 
-/* The reader, by lists of its own. */
-static Answer check(const uint8_t *table, size_t bytes)
+/* The reader, which hands out the lists that it filled. */
+static Answer read_table(const uint8_t *table, size_t bytes, Lists *l)
 {
-    Lists own;
-    Answer a = unpack(table, bytes, &own);
-    return a.number != 0 ? a : references(&own);
+    Answer a = unpack(table, bytes, l);
+    return a.number != 0 ? a : references(l);
 }
 
 #endif
