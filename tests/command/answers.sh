@@ -35,6 +35,17 @@ test_of_several_tables_the_highest_status() {
     gives 0 latency "$examples/whole-case.tbl" "$examples/empty.tbl"
 }
 
+# The most that every count may be: 12,110 bytes, whose first VL has no Lmax; one byte more is one too many. A program that reads less sees neither.
+test_longest_table_is_read_whole() {
+    { printf '\001\100\020\002\000\200\100\000\000' && head -c 12101 /dev/zero; } >longest.tbl
+    [ "$(wc -c <longest.tbl)" -eq 12110 ] || no "the table is not the longest"
+    gives 1 latency longest.tbl
+    has out 'refused 4 2 0'
+    printf '\000' >>longest.tbl
+    gives 1 latency longest.tbl
+    has out 'refused 3 0 0'
+}
+
 # ---- output that cannot be written
 test_full_disk_is_said() {
     status=0
