@@ -34,7 +34,7 @@ use Rattle.station.proofs.Facts.{figure-within-length, busy-length-is}
 use Rattle.rows.specs.Links.{sendMost, sendSpread, muxWait, hopMost, hopSpread}
 use Rattle.rows.specs.Queues.{queueFlow, queueFlows, queueLength, queueFigure}
 use Rattle.rows.specs.Ports.{hopFlow, portFlows, portLength, portFigure, rootJitter, childJitter, jitterOf, figureOf}
-use Rattle.rows.proofs.PortLaws.{figures-of}
+use Rattle.rows.proofs.PortLaws.{figure-of-port, figures-of}
 use Rattle.analysis.specs.Computing.{sumWithout}
 use Rattle.analysis.proofs.SumLaws.{passing-most, map-in-range, map-periodic}
 use Rattle.analysis.proofs.LinkLaws.{counts, mux-wait-is}
@@ -149,9 +149,12 @@ module _ (net : Network) (ranges : Ranges net) (refs : References net) where
       figure-limit (portFlows net jitter p)
       (map-periodic (hopFlow net jitter) (hopsOn net p) (λ h m. omega (arith, gap-of-hop h (on-port net p h m .0) .gap-least)))
 
+  pub figure-bound : (h : ℕ) → figureOf net h ≤ 125000000
+  figure-bound h = rw (figure-of-port net h) (port-figure-bound (jitterOf net) (hopAt net h .port))
+
   -- a root's jitter, and what each hop behind it adds at most
   jitter-by-route : (n h : ℕ) → h < length (net .hops) → routeLonger net n h ≡ false → jitterOf net h ≤ 3955000 + n * 125001250
-  unfolding routeLonger rootJitter childJitter figureOf
+  unfolding routeLonger rootJitter childJitter
   jitter-by-route zero h l e = absurd (true≢false e)
   jitter-by-route (suc n) h l e = go (λ g. jitter-by-route n g) (parentAt net h) refl
     where
@@ -161,7 +164,7 @@ module _ (net : Network) (ranges : Ranges net) (refs : References net) where
           omega (arith, figures-of net refs .root-is h l k, mux-wait-bound (hopAt net h .vl), send-spread-bound (hopAt net h .vl) (refs .hop-vl h l), hop-spread-bound h l)
       go ih (some g) k =
           let row : g < length (net .hops) = omega (arith, refs .parent-earlier h g l k) in
-          omega (arith, figures-of net refs .child-is h g l k, ih g row (sym (child-longer net n h g k) ∙ e), port-figure-bound (jitterOf net) (hopAt net g .port), hop-spread-bound h l)
+          omega (arith, figures-of net refs .child-is h g l k, ih g row (sym (child-longer net n h g k) ∙ e), figure-bound g, hop-spread-bound h l)
 
   pub jitter-bound : (h : ℕ) → h < length (net .hops) → jitterOf net h ≤ 1100000000
   jitter-bound h l = omega (arith, jitter-by-route 8 h l (refs .not-deep h l))

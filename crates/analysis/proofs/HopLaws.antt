@@ -16,9 +16,9 @@ use Rattle.network.specs.ReferenceFacts.{References}
 use Rattle.network.specs.Ranges.{Ranges}
 use Rattle.rows.specs.Links.{sendSpread, hopMost, hopLine, hopSpread}
 use Rattle.rows.specs.Ports.{rootJitter, childJitter, jitterOf, figureOf}
-use Rattle.rows.proofs.PortLaws.{figures-of}
+use Rattle.rows.proofs.PortLaws.{figure-of-port, figures-of}
 use Rattle.analysis.specs.Computing.{Waits, Figures, Jitters}
-use Rattle.analysis.proofs.BoundLaws.{mux-wait-bound, port-figure-bound, jitter-bound}
+use Rattle.analysis.proofs.BoundLaws.{mux-wait-bound, figure-bound, jitter-bound}
 
 -- a frame's bytes on the line by the ticks of a byte
 pub frame-bound : (bytes ticks : ℕ) → 84 ≤ bytes → bytes ≤ 1538 → 1 ≤ ticks → ticks ≤ 10 → (84 ≤ bytes * ticks) × (bytes * ticks ≤ 15380)
@@ -68,12 +68,10 @@ module _ (net : Network) (ranges : Ranges net) (refs : References net) (h : ℕ)
 
     module _ (parent : Hop) (of : parent ≡ hopAt net g) (figures : List ℕ) (known : Figures net figures (hopAt net h .port)) where
       parent-figure : getD figures (parent .port) 0 ≡ figureOf net g
-      unfolding figureOf
-      parent-figure = rw of (known .figure-is (hopAt net g .port) (refs .parent-port h g row child))
+      parent-figure = rw (of, figure-of-port net g) (known .figure-is (hopAt net g .port) (refs .parent-port h g row child))
 
       pub parent-figure-bound : getD figures (parent .port) 0 ≤ 125000000
-      unfolding figureOf
-      parent-figure-bound = omega (arith, parent-figure, port-figure-bound net ranges refs (jitterOf net) (hopAt net g .port))
+      parent-figure-bound = omega (arith, parent-figure, figure-bound net ranges refs g)
 
       pub child-jitter-is :
           (jitters : List ℕ) → Jitters net jitters (hopAt net h .port) → (least : ℕ) → least ≡ hopLine net g

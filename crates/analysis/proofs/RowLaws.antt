@@ -20,15 +20,16 @@ use Rattle.base.specs.Tests.{isSome}
 use Rattle.base.proofs.LeastLaws.{least-is, least-none, least-was, none-was, least-exists}
 use Rattle.base.proofs.TabulateLaws.{passing-hit, passing-miss, passing-by}
 use Rattle.base.proofs.TestLaws.{some-is}
-use Rattle.bits.proofs.RecordLaws.{total-append}
 use Rattle.frame.specs.Packets.{packets}
 use Rattle.network.specs.Network.{Network, vlAt, streamAt, portAt, hopAt, parentAt}
 use Rattle.network.specs.Views.{routeOf, isParent, leaf, leavesOf, route}
 use Rattle.network.proofs.RouteLaws.{route-of-root, route-of-child}
 use Rattle.rows.specs.Links.{sendMost, sendLine, muxWait, hopLine}
 use Rattle.rows.specs.Queues.{queueFigure}
-use Rattle.rows.specs.Ports.{portFigure, jitterOf, figureOf}
-use Rattle.rows.specs.Rows.{queueOf, worstParts, worst, bestParts, best, rowJitter, rowOf, rowsTo, rowsOf}
+use Rattle.rows.specs.Ports.{portFigure, jitterOf}
+use Rattle.rows.specs.Rows.{queueOf, worst, best, rowJitter, rowOf, rowsTo, rowsOf}
+use Rattle.rows.proofs.PortLaws.{figure-of-port}
+use Rattle.rows.proofs.RowLaws.{mostAt, leastAt, worst-sum, best-sum}
 use Rattle.analysis.specs.Computing.{Waits, Queues, Figures, Leaves}
 use Rattle.analysis.specs.Placing.{routeMost, routeLeast}
 
@@ -133,29 +134,21 @@ module _ (net : Network) where
     unfolding total routeOf
     along-none n g sum all e s = let z : along n g ≡ 0 = ap (λ (m : ℕ). along m g) e in omega arith
 
-  -- the ticks that a hop adds at most and at least
-  abbrev pub mostAt : ℕ → ℕ
-  mostAt g = portAt net (hopAt net g .port) .greatest + figureOf net g
-
-  abbrev pub leastAt : ℕ → ℕ
-  leastAt g = hopLine net g + portAt net (hopAt net g .port) .least
-
-  pub route-most-is : (h : ℕ) → routeMost net (route net h) ≡ along mostAt 8 h
+  pub route-most-is : (h : ℕ) → routeMost net (route net h) ≡ along (mostAt net) 8 h
   unfolding routeMost route
   route-most-is h = refl
 
-  pub route-least-is : (h : ℕ) → routeLeast net (route net h) ≡ along leastAt 8 h
+  pub route-least-is : (h : ℕ) → routeLeast net (route net h) ≡ along (leastAt net) 8 h
   unfolding routeLeast route
   route-least-is h = refl
 
   -- as they are read: the port's delay and the figure noted for it; the hop's frame and the port's delay
   pub most-read : (figures : List ℕ) (g p d : ℕ) → Figures net figures (length (net .ports)) → p < length (net .ports) → p ≡ hopAt net g .port
-      → d ≡ portAt net p .greatest → d + getD figures p 0 ≡ mostAt g
-  unfolding figureOf
+      → d ≡ portAt net p .greatest → d + getD figures p 0 ≡ mostAt net g
   most-read figures g p d known l e f =
-      ap₂ _+_ (f ∙ ap (λ (q : ℕ). portAt net q .greatest) e) (known .figure-is p l ∙ ap (portFigure net (jitterOf net)) e)
+      ap₂ _+_ (f ∙ ap (λ (q : ℕ). portAt net q .greatest) e) (known .figure-is p l ∙ ap (portFigure net (jitterOf net)) e ∙ sym (figure-of-port net g))
 
-  pub least-read : (g p line d : ℕ) → p ≡ hopAt net g .port → line ≡ hopLine net g → d ≡ portAt net p .least → line + d ≡ leastAt g
+  pub least-read : (g p line d : ℕ) → p ≡ hopAt net g .port → line ≡ hopLine net g → d ≡ portAt net p .least → line + d ≡ leastAt net g
   least-read g p line d e f k = ap₂ _+_ f (k ∙ ap (λ (q : ℕ). portAt net q .least) e)
 
   -- ---- the figures of a row as they are read
@@ -181,13 +174,13 @@ module _ (net : Network) where
   -- ---- worst and best
   pub worst-is : (s h : ℕ) →
       worst net s h ≡ net .sendGreatest + queueOf net s + muxWait net (streamAt net s .vl) + sendMost net (streamAt net s .vl) + routeMost net (route net h) + net .receiveGreatest
-  unfolding worst worstParts routeMost total
-  worst-is s h = omega (arith, total-append (map mostAt (route net h)) (net .receiveGreatest ∷ []))
+  unfolding routeMost
+  worst-is = worst-sum net
 
   pub best-is : (s h : ℕ) →
       best net s h ≡ net .sendLeast + (packets (streamAt net s .least) (vlAt net (streamAt net s .vl) .lmax) - 1) * vlAt net (streamAt net s .vl) .gap + sendLine net (streamAt net s .vl) + routeLeast net (route net h) + net .receiveLeast
-  unfolding best bestParts routeLeast total
-  best-is s h = omega (arith, total-append (map leastAt (route net h)) (net .receiveLeast ∷ []))
+  unfolding routeLeast
+  best-is = best-sum net
 
   -- ---- the rows
   -- of the first s streams, and of stream s those at these hops

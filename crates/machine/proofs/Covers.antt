@@ -17,14 +17,15 @@ use Rattle.network.specs.Network.{Network, vlAt, streamAt, portAt, hopAt}
 use Rattle.network.specs.Views.{hopsOn, streamsOn}
 use Rattle.network.proofs.PortLaws.{on-port, member-on-port}
 use Rattle.rows.specs.Links.{hopMost, hopLine}
-use Rattle.rows.specs.Ports.{hopFlow, portFlows, portLength, portFigure, jitterOf}
+use Rattle.rows.specs.Ports.{hopFlow, portFlows, portLength, portFigure, jitterOf, figureOf}
 use Rattle.rows.specs.Queues.{queueFlow, queueFlows, queueLength}
+use Rattle.rows.proofs.PortLaws.{figure-of-port}
 use Rattle.station.specs.Facts.{Periodic}
 use Rattle.station.specs.Station.{Flow, most, brought, busyLength, figure}
 use Rattle.station.proofs.Facts.{covers-every-span}
 use Rattle.machine.specs.Sound.{Sound, Has, Busy}
 use Rattle.machine.proofs.Select.{was-passing}
-use Rattle.machine.proofs.Windows.{queueStation, portStation}
+use Rattle.machine.proofs.Windows.{queueStation}
 
 -- a flow's own part of what a span brings
 pub brought-part : (f : ℕ → Flow) (d s : ℕ) (ns : List ℕ) → List·Memᴰ s ns → most (f s) d * f s .cost ≤ brought (map f ns) d
@@ -86,8 +87,8 @@ module _ (net : Network) (sound : Sound net) (busy : Busy net) where
   port-periodic p = periodic-map (hopFlow net (jitterOf net)) (hopsOn net p)
       (λ h m. sound .gap (hopAt net h .vl) (sound .references .hop-vl h (on-port net p h m .0)))
 
-  pub port-covers : (p d : ℕ) → brought (portFlows net (jitterOf net) p) d ≤ portStation net p + d
-  unfolding portFlows portStation portFigure portLength
+  pub port-covers : (p d : ℕ) → brought (portFlows net (jitterOf net) p) d ≤ portFigure net (jitterOf net) p + d
+  unfolding portFlows portFigure portLength
   port-covers p d = go (hopsOn net p) refl
     where
       go : (l : List ℕ) → hopsOn net p ≡ l → brought (map (hopFlow net (jitterOf net)) (hopsOn net p)) d ≤ figure (map (hopFlow net (jitterOf net)) (hopsOn net p)) (numberOr0 (busyLength (map (hopFlow net (jitterOf net)) (hopsOn net p)))) + d
@@ -98,14 +99,14 @@ module _ (net : Network) (sound : Sound net) (busy : Busy net) where
           let has : Has (portLength net (jitterOf net) p) = subst (λ (z : ℕ). Has (portLength net (jitterOf net) z)) (on .1) (busy .port h (on .0)) in
           station-covers (portFlows net (jitterOf net) p) (port-periodic p) has d
 
-  -- a port's figure is at least a least frame of each hop on it
-  pub figure-least : (h : ℕ) → h < length (net .hops) → hopLine net h ≤ portStation net (hopAt net h .port)
+  -- a hop's figure is at least a least frame of it
+  pub figure-least : (h : ℕ) → h < length (net .hops) → hopLine net h ≤ figureOf net h
   unfolding portFlows hopFlow hopMost hopLine
   figure-least h l =
       let p = hopAt net h .port in
       let v = hopAt net h .vl in
       let hv = sound .references .hop-vl h l in
-      let a = cost-covered (hopFlow net (jitterOf net)) h (portStation net p) (hopsOn net p) (member-on-port net p h l refl) (port-covers p 0) in
+      let a = cost-covered (hopFlow net (jitterOf net)) h (portFigure net (jitterOf net) p) (hopsOn net p) (member-on-port net p h l refl) (port-covers p 0) in
       let c : leastLine * portAt net p .perbyte ≤ largestLine (vlAt net v .lmax) * portAt net p .perbyte =
       mul-le-mul-right (portAt net p .perbyte) (largest-line-bounds (vlAt net v .lmax) (sound .lmax-least v hv) (sound .lmax-greatest v hv) .0) in
-      omega (arith, a, c)
+      omega (arith, a, c, figure-of-port net h)

@@ -16,7 +16,8 @@ use Rattle.network.specs.Network.{Network, vlAt, portAt, hopAt, parentAt}
 use Rattle.network.specs.Views.{hopsOn, leaf}
 use Rattle.network.proofs.PortLaws.{on-port}
 use Rattle.rows.specs.Links.{hopMost, hopLine}
-use Rattle.rows.specs.Ports.{hopFlow, portFlows, jitterOf}
+use Rattle.rows.specs.Ports.{hopFlow, portFlows, portFigure, jitterOf, figureOf}
+use Rattle.rows.proofs.PortLaws.{figure-of-port}
 use Rattle.station.specs.Station.{Flow, most, brought}
 use Rattle.machine.specs.Sum.{span, count, weigh}
 use Rattle.machine.specs.Lists.{chosen}
@@ -33,7 +34,7 @@ use Rattle.machine.proofs.Envelope.{any, envelope}
 use Rattle.machine.proofs.Select.{was-chosen, is-chosen, chosen-any, delay-chosen, delay-same, looser, hops-at, was-gathered}
 use Rattle.machine.proofs.Trace.{ch, st, port-is, hand, source, lands-at, lands-is, into, left, left-is, done, done-is}
 use Rattle.machine.proofs.Endless.{Endless}
-use Rattle.machine.proofs.Windows.{portStation, Windows, soon-by, late-by}
+use Rattle.machine.proofs.Windows.{Windows, soon-by, late-by}
 use Rattle.machine.proofs.Queues.{hand-fact, hand-rate}
 use Rattle.machine.proofs.Ends.{end-delay}
 
@@ -68,7 +69,7 @@ module _ (net : Network) (sound : Sound net) (r : Run) (per : Endless net r) (wi
   abbrev pub Held-within : ℕ → ℕ → Type 0
   Held-within p t =
       let q = portArrived net t (ch net r t) (st net r t) p in
-      FifoLaws.free (portCost net p) t (q .link) + weigh (portCost net p) (q .line) ≤ t + portStation net p
+      FifoLaws.free (portCost net p) t (q .link) + weigh (portCost net p) (q .line) ≤ t + portFigure net (jitterOf net) p
 
   -- ---- one port, if what reaches it keeps its times
   module _ (p : ℕ) (arrive : (h : ℕ) → h < length (net .hops) → port-of h ≡ p → Delay (hand net r (hopAt net h .vl)) (into net r h) (win .soon h) (win .late h)) where
@@ -160,19 +161,19 @@ module _ (net : Network) (sound : Sound net) (r : Run) (per : Endless net r) (wi
     bound x d = subst (λ (l : List Flow). span (λ t. weigh (portCost net p) (ins t)) x d ≤ brought l d) (flows-classes ns)
         (works-bound (portCost net p) ins (classes ns) covered (kept-in ns (λ h m. m)) x d)
 
-    port-delay : Delay ins (fifo-out (portCost net p) ins) lo (portStation net p)
-    port-delay = fifo-delay (portCost net p) ins lo costs (brought (portFlows net (jitterOf net) p)) (portStation net p) bound (win .port-covers p)
+    port-delay : Delay ins (fifo-out (portCost net p) ins) lo (portFigure net (jitterOf net) p)
+    port-delay = fifo-delay (portCost net p) ins lo costs (brought (portFlows net (jitterOf net) p)) (portFigure net (jitterOf net) p) bound (win .port-covers p)
 
     held : (t : ℕ) → Held-within p t
     unfolding FifoLaws.e
-    held t = subst (λ (q : Fifo Copy). FifoLaws.free (portCost net p) t (still t (q .link)) + weigh (portCost net p) (q .line ++ ins t) ≤ t + portStation net p) (sym (port-is net r p t))
-        (FifoLaws.e-bound (portCost net p) ins (λ u c m. costs u c m .0) (brought (portFlows net (jitterOf net) p)) (portStation net p) bound (win .port-covers p) t)
+    held t = subst (λ (q : Fifo Copy). FifoLaws.free (portCost net p) t (still t (q .link)) + weigh (portCost net p) (q .line ++ ins t) ≤ t + portFigure net (jitterOf net) p) (sym (port-is net r p t))
+        (FifoLaws.e-bound (portCost net p) ins (λ u c m. costs u c m .0) (brought (portFlows net (jitterOf net) p)) (portFigure net (jitterOf net) p) bound (win .port-covers p) t)
 
-    pub hop-delay : (h : ℕ) → port-of h ≡ p → Delay (into net r h) (left net r h) (hopLine net h) (portStation net (port-of h))
+    pub hop-delay : (h : ℕ) → port-of h ≡ p → Delay (into net r h) (left net r h) (hopLine net h) (figureOf net h)
     unfolding hopLine
-    hop-delay h e = delay-same (λ t. refl) (λ t. left-is net r h t)
+    hop-delay h e = rw (figure-of-port net h) (delay-same (λ t. refl) (λ t. left-is net r h t)
         (delay-chosen (λ c. eqb (c .hop) h) (λ c. c .frame)
-        (subst (λ (q : ℕ). Delay (λ t. ch net r t .enter q) (fifo-out (portCost net q) (λ t. ch net r t .enter q)) (leastLine * portAt net q .perbyte) (portStation net q)) (sym e) port-delay))
+        (subst (λ (q : ℕ). Delay (λ t. ch net r t .enter q) (fifo-out (portCost net q) (λ t. ch net r t .enter q)) (leastLine * portAt net q .perbyte) (portFigure net (jitterOf net) q)) (sym e) port-delay)))
 
   -- ---- all ports, from the lowest number on
   abbrev Arrive : ℕ → Type 0
@@ -214,7 +215,7 @@ module _ (net : Network) (sound : Sound net) (r : Run) (per : Endless net r) (wi
 
   -- ---- destinations
   pub done-delay : (h : ℕ) → h < length (net .hops) → leaf net h ≡ true
-      → Delay (hand net r (hopAt net h .vl)) (done net r h) (win .soon h + hopLine net h + net .receiveLeast) (win .late h + portStation net (port-of h) + net .receiveGreatest)
+      → Delay (hand net r (hopAt net h .vl)) (done net r h) (win .soon h + hopLine net h + net .receiveLeast) (win .late h + figureOf net h + net .receiveGreatest)
   done-delay h hh k =
       arrive (port-of h) h hh refl
       then hop-delay (port-of h) (arrive (port-of h)) h refl

@@ -2,7 +2,7 @@
 -- Assumes nothing.
 use Prim.Native.Nat.{ℕ, zero, suc, _+_, _*_, _-_, _≤_, _<_}
 use mathlib.Core.Bool.{Bool, true, false, cond, not, _&&_}
-use mathlib.Core.List.{List, [], _∷_, _++_, map}
+use mathlib.Core.List.{List, [], _∷_, _++_}
 use mathlib.Core.Logic.{⊎-elim, _≢_}
 use mathlib.Core.Option.{Option, none, some}
 use mathlib.Core.Path.{_≡_, refl, sym, ap, ap₂, _∙_, subst}
@@ -19,14 +19,15 @@ use Rattle.rows.specs.Links.{sendMost, sendLine, sendSpread, sendSum, muxWait, 
 use Rattle.network.specs.Views.{vlsOf, route}
 use Rattle.rows.specs.Ports.{rootJitter, childJitter, jitterOf, figureOf}
 use Rattle.rows.specs.Queues.{queueFigure}
-use Rattle.rows.specs.Rows.{queueOf, worstParts, worst, bestParts, best}
+use Rattle.rows.specs.Rows.{queueOf, worst, best}
 use Rattle.rows.proofs.PortLaws.{figures-of}
+use Rattle.rows.proofs.RowLaws.{mostAt, leastAt, worst-sum, best-sum}
 use Rattle.machine.specs.Sum.{weigh}
 use Rattle.machine.specs.Sound.{Sound, Busy}
 use Rattle.machine.proofs.Cases.{eq→eqb, by-test}
-use Rattle.machine.proofs.Sums.{total-append, weigh-append}
+use Rattle.machine.proofs.Sums.{weigh-append}
 use Rattle.machine.proofs.Select.{passing-suc}
-use Rattle.machine.proofs.Windows.{queueStation, portStation, soon-by, late-by, Windows, latest, soonest}
+use Rattle.machine.proofs.Windows.{queueStation, soon-by, late-by, Windows, latest, soonest}
 use Rattle.machine.proofs.Covers.{queue-covers, port-covers, figure-least}
 
 -- ---- one number taken out of a sum
@@ -93,29 +94,19 @@ module _ (net : Network) (sound : Sound net) (busy : Busy net) where
         go (some g) e = ap (weigh c) (route-of-parent net (sound .references) h l g e)
 
   -- ---- windows
-  abbrev most-at : ℕ → ℕ
-  most-at g = portAt net (hopAt net g .port) .greatest + figureOf net g
-
-  abbrev least-at : ℕ → ℕ
-  least-at g = hopLine net g + portAt net (hopAt net g .port) .least
-
   soon : ℕ → ℕ
-  soon h = sendLine net (hopAt net h .vl) + over least-at (parentAt net h) + portAt net (hopAt net h .port) .least
+  soon h = sendLine net (hopAt net h .vl) + over (leastAt net) (parentAt net h) + portAt net (hopAt net h .port) .least
 
   late : ℕ → ℕ
-  late h = sendSum net (vlAt net (hopAt net h .vl) .system) + over most-at (parentAt net h) + portAt net (hopAt net h .port) .greatest
+  late h = sendSum net (vlAt net (hopAt net h .vl) .system) + over (mostAt net) (parentAt net h) + portAt net (hopAt net h .port) .greatest
 
-  figure-is : (h : ℕ) → figureOf net h ≡ portStation net (hopAt net h .port)
-  unfolding figureOf portStation
-  figure-is h = refl
-
-  soon-route : (h : ℕ) → h < length (net .hops) → sendLine net (hopAt net h .vl) + weigh least-at (route net h) ≡ soon h + hopLine net h
+  soon-route : (h : ℕ) → h < length (net .hops) → sendLine net (hopAt net h .vl) + weigh (leastAt net) (route net h) ≡ soon h + hopLine net h
   unfolding soon
-  soon-route h l = omega (arith, route-sum least-at h l)
+  soon-route h l = omega (arith, route-sum (leastAt net) h l)
 
-  late-route : (h : ℕ) → h < length (net .hops) → sendSum net (vlAt net (hopAt net h .vl) .system) + weigh most-at (route net h) ≡ late h + portStation net (hopAt net h .port)
+  late-route : (h : ℕ) → h < length (net .hops) → sendSum net (vlAt net (hopAt net h .vl) .system) + weigh (mostAt net) (route net h) ≡ late h + figureOf net h
   unfolding late
-  late-route h l = omega (arith, route-sum most-at h l, figure-is h)
+  late-route h l = omega (arith, route-sum (mostAt net) h l)
 
   row-of-parent : (h g : ℕ) → h < length (net .hops) → parentAt net h ≡ some g → g < length (net .hops)
   row-of-parent h g l e = omega (arith, sound .references .parent-earlier h g l e)
@@ -125,7 +116,7 @@ module _ (net : Network) (sound : Sound net) (busy : Busy net) where
   soon-is h l = go (parentAt net h) refl
     where
       go : (o : Option ℕ) → parentAt net h ≡ o
-          → sendLine net (hopAt net h .vl) + over least-at o + portAt net (hopAt net h .port) .least ≡ soon-by net soon h o
+          → sendLine net (hopAt net h .vl) + over (leastAt net) o + portAt net (hopAt net h .port) .least ≡ soon-by net soon h o
       go none e = omega arith
       go (some g) e = omega (arith, ap (sendLine net) (sound .references .parent-vl h g l e), soon-route g (row-of-parent h g l e))
 
@@ -134,7 +125,7 @@ module _ (net : Network) (sound : Sound net) (busy : Busy net) where
   late-is h l = go (parentAt net h) refl
     where
       go : (o : Option ℕ) → parentAt net h ≡ o
-          → sendSum net (vlAt net (hopAt net h .vl) .system) + over most-at o + portAt net (hopAt net h .port) .greatest ≡ late-by net late h o
+          → sendSum net (vlAt net (hopAt net h .vl) .system) + over (mostAt net) o + portAt net (hopAt net h .port) .greatest ≡ late-by net late h o
       go none e = omega arith
       go (some g) e =
           omega (arith, ap (λ (v : ℕ). sendSum net (vlAt net v .system)) (sound .references .parent-vl h g l e), late-route g (row-of-parent h g l e))
@@ -175,7 +166,6 @@ module _ (net : Network) (sound : Sound net) (busy : Busy net) where
             figures-of net (sound .references) .child-is h g l e,
             f g (omega (arith, sound .references .parent-earlier h g l e)) row,
             figure-least net sound busy g row,
-            figure-is g,
             sound .port-delay (hopAt net h .port) (sound .references .hop-port h l),
           )
 
@@ -196,12 +186,11 @@ module _ (net : Network) (sound : Sound net) (busy : Busy net) where
 
   module _ (s h : ℕ) (hs : s < length (net .streams)) (hh : h < length (net .hops)) (of : hopAt net h .vl ≡ streamAt net s .vl) where
     pub worst-is : latest net windows s h ≡ worst net s h
-    unfolding windows worst worstParts total
+    unfolding windows
     worst-is =
-        let parts : List ℕ = map most-at (route net h) in
         omega (
           arith,
-          total-append parts (net .receiveGreatest ∷ []),
+          worst-sum net s h,
           late-route h hh,
           ap (λ (v : ℕ). sendSum net (vlAt net v .system)) of,
           send-sum-is (streamAt net s .vl) (sound .references .stream-vl s hs),
@@ -209,7 +198,5 @@ module _ (net : Network) (sound : Sound net) (busy : Busy net) where
         )
 
     pub best-is : soonest net windows s h ≡ best net s h
-    unfolding windows best bestParts total
-    best-is =
-        let parts : List ℕ = map least-at (route net h) in
-        omega (arith, total-append parts (net .receiveLeast ∷ []), soon-route h hh, ap (sendLine net) of)
+    unfolding windows
+    best-is = omega (arith, best-sum net s h, soon-route h hh, ap (sendLine net) of)

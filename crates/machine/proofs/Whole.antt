@@ -3,7 +3,7 @@
 use Prim.Native.Nat.{ℕ, zero, suc, _-_, _<_}
 use mathlib.Core.Bool.{true, false}
 use mathlib.Core.List.{List, [], _∷_}
-use mathlib.Core.Option.{Option, none, some}
+use mathlib.Core.Option.{Option, some}
 use mathlib.Core.Path.{_≡_, refl, ap, _∙_}
 use native.Mathlib.Omega.{arith}
 use lib.Dec.{leb, leb→le}
@@ -23,9 +23,9 @@ use Rattle.network.specs.ReferenceFacts.{References}
 use Rattle.network.specs.References as References
 use Rattle.network.proofs.ReferenceLaws.{references-exactly}
 use Rattle.rows.specs.Links.{sendMost, sendLine, sendSpread, sendSum, muxWait, hopMost, hopLine, hopSpread}
-use Rattle.rows.specs.Ports.{hopFlow, portFlows, portLength, portFigure, rootJitter, jitterBelow, jitterOf, figureOf}
+use Rattle.rows.specs.Ports.{hopFlow, portFlows, portLength, portFigure, hopFigure, rootJitter, jitterBelow, jitterOf, figureOf}
 use Rattle.rows.specs.Queues.{queueFlow, queueFlows, queueLength, queueFigure}
-use Rattle.rows.specs.Rows.{queueOf, worstParts, worst, bestParts, best, rowJitter, rowOf, rowsTo, rowsOf}
+use Rattle.rows.specs.Rows.{twoEach, queueOf, worstParts, worst, bestParts, best, rowJitter, rowOf, rowsTo, rowsOf}
 use Rattle.station.specs.Searching.{lastIn}
 use Rattle.station.specs.Station.{Flow, most, brought, limit, busyLength, figure}
 use Rattle.station.specs.Offered.{inRange, allInRange}
@@ -137,17 +137,17 @@ queues = (
 )
 
 port-figure : (figureOf whole 0 ≡ 2074) × (figureOf whole 1 ≡ 2074)
-unfolding figureOf portFigure portLength
+unfolding figureOf hopFigure portFigure portLength
 port-figure =
     let e = queue-figure (portFlows whole (jitterOf whole) 0) flows 2074 2074 port-flows (lengths .2) (figures .2) in
     (e, e)
 
 worsts : (worst whole 0 0 ≡ 19398) × (worst whole 1 1 ≡ 6898)
-unfolding worst worstParts route routeOf muxWait sendMost largestLine lineOverhead total passing
+unfolding worst worstParts twoEach route routeOf muxWait sendMost largestLine lineOverhead total passing
 worsts = (omega (arith, queues .0, port-figure .0), omega (arith, queues .1, port-figure .1))
 
 bests : (best whole 0 0 ≡ 2043) × (best whole 1 1 ≡ 2043)
-unfolding best bestParts route routeOf sendLine hopLine leastLine leastFrame lineOverhead packets up fullPacket protocolOverhead total
+unfolding best bestParts twoEach route routeOf sendLine hopLine leastLine leastFrame lineOverhead packets up fullPacket protocolOverhead total
 bests = (refl, refl)
 
 -- "0 0 12500 19398 2043 17355" and "1 1 0 6898 2043 5855"

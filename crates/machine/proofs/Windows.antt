@@ -8,7 +8,7 @@ use Rattle.base.specs.Tests.{numberOr0}
 use Rattle.frame.specs.Packets.{packets}
 use Rattle.network.specs.Network.{Network, vlAt, streamAt, portAt, hopAt, parentAt}
 use Rattle.rows.specs.Links.{sendLine, sendSum, hopLine}
-use Rattle.rows.specs.Ports.{portFlows, portFigure, jitterOf}
+use Rattle.rows.specs.Ports.{portFlows, portFigure, jitterOf, figureOf}
 use Rattle.rows.specs.Queues.{queueFlows, queueLength}
 use Rattle.station.specs.Station.{brought, figure}
 
@@ -17,17 +17,13 @@ module _ (net : Network) where
   unfoldable pub queueStation : ℕ → ℕ → ℕ
   queueStation v k = figure (queueFlows net v k) (numberOr0 (queueLength net v k))
 
-  -- the station's figure of a port
-  unfoldable pub portStation : ℕ → ℕ
-  portStation p = portFigure net (jitterOf net) p
-
   abbrev pub soon-by : (ℕ → ℕ) → ℕ → Option ℕ → ℕ
   soon-by soon h none = sendLine net (hopAt net h .vl) + portAt net (hopAt net h .port) .least
   soon-by soon h (some g) = soon g + hopLine net g + portAt net (hopAt net h .port) .least
 
   abbrev pub late-by : (ℕ → ℕ) → ℕ → Option ℕ → ℕ
   late-by late h none = sendSum net (vlAt net (hopAt net h .vl) .system) + portAt net (hopAt net h .port) .greatest
-  late-by late h (some g) = late g + portStation (hopAt net g .port) + portAt net (hopAt net h .port) .greatest
+  late-by late h (some g) = late g + figureOf net g + portAt net (hopAt net h .port) .greatest
 
   -- `soon h` and `late h`: the least and the most from hand-over to arrival at the port of hop h; 01's jitter of the hop is their difference
   pub record Windows : Type 0 where
@@ -37,13 +33,13 @@ module _ (net : Network) where
     pub late-is : (h : ℕ) → h < length (net .hops) → late h ≡ late-by late h (parentAt net h)
     pub spread : (h : ℕ) → h < length (net .hops) → late h ≡ soon h + jitterOf net h
     pub queue-covers : (v k d : ℕ) → brought (queueFlows net v k) d ≤ queueStation v k + d
-    pub port-covers : (p d : ℕ) → brought (portFlows net (jitterOf net) p) d ≤ portStation p + d
+    pub port-covers : (p d : ℕ) → brought (portFlows net (jitterOf net) p) d ≤ portFigure net (jitterOf net) p + d
 
   -- the row of stream s and hop h
   abbrev pub latest : Windows → ℕ → ℕ → ℕ
   latest win s h =
       net .sendGreatest + (queueStation (streamAt net s .vl) (streamAt net s .sublink) - vlAt net (streamAt net s .vl) .gap)
-      + win .late h + portStation (hopAt net h .port) + net .receiveGreatest
+      + win .late h + figureOf net h + net .receiveGreatest
 
   abbrev pub soonest : Windows → ℕ → ℕ → ℕ
   soonest win s h =

@@ -10,16 +10,14 @@ use lib.ListN.{length}
 use Rattle.frame.specs.Packets.{packets}
 use Rattle.frame.proofs.FrameLaws.{protocol-overhead-is, largest-line-bounds}
 use Rattle.network.specs.Network.{Network, vlAt, streamAt, hopAt}
-use Rattle.rows.specs.Links.{hopLine}
 use Rattle.network.specs.Views.{streamsOn}
 use Rattle.rows.specs.Queues.{queueFlow, queueFlows}
-use Rattle.rows.specs.Ports.{figureOf}
 use Rattle.rows.specs.Rows.{worst, best}
 use Rattle.machine.specs.Sound.{Sound, Busy}
 use Rattle.machine.proofs.Cases.{both}
 use Rattle.machine.proofs.Select.{is-passing}
 use Rattle.machine.proofs.Told.{packets-mono, packets-pos}
-use Rattle.machine.proofs.Windows.{queueStation, portStation}
+use Rattle.machine.proofs.Windows.{queueStation}
 use Rattle.machine.proofs.Covers.{cost-covered, queue-covers, figure-least}
 use Rattle.machine.proofs.Arrivals.{flow-cost}
 use Rattle.machine.proofs.OverNetworks.{demand-3-over-networks as machines}
@@ -27,10 +25,6 @@ use Rattle.machine.proofs.Routes.{windows, worst-is, best-is}
 use Rattle.order.specs.Demand2.{NothingCutOff}
 
 module _ (net : Network) (sound : Sound net) (busy : Busy net) where
-  port-figure : (g : ℕ) → g < length (net .hops) → hopLine net g ≤ figureOf net g
-  unfolding figureOf portStation
-  port-figure g h = figure-least net sound busy g h
-
   least-packets : (s : ℕ) → s < length (net .streams) → 1 ≤ packets (streamAt net s .least) (vlAt net (streamAt net s .vl) .lmax)
   least-packets s h =
       packets-pos (vlAt net (streamAt net s .vl) .lmax) (streamAt net s .least) (sound .lmax-least (streamAt net s .vl) (sound .references .stream-vl s h)) (sound .least-size s h)
@@ -78,7 +72,7 @@ module _ (net : Network) (sound : Sound net) (busy : Busy net) where
     queue = machines net sound busy .nothing-cut-off;
     line = λ v h. largest-line-bounds (vlAt net v .lmax) (sound .lmax-least v h) (sound .lmax-greatest v h) .0;
     switch-delay = sound .port-delay;
-    child-jitter = λ g h. omega (arith, port-figure g h);
+    child-jitter = figure-least net sound busy;
     least-packets = least-packets;
     row-jitter = row-jitter;
   }

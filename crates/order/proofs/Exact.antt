@@ -25,9 +25,9 @@ use Rattle.table.specs.Read.{networkIn}
 use Rattle.table.proofs.ReadLaws.{read-references}
 use Rattle.network.specs.Views.{streamsOn}
 use Rattle.rows.specs.Queues.{queueFlows, queueLength}
-use Rattle.rows.specs.Ports.{portFlows, portLength, portFigure, childJitter, jitterOf, figureOf}
+use Rattle.rows.specs.Ports.{portFlows, portLength, portFigure, childJitter, jitterOf}
 use Rattle.rows.specs.Refusals.{endlessSubLink, endlessVl, endless, endlessPort}
-use Rattle.rows.proofs.PortLaws.{port-flows-same, port-figure-same, figures-of}
+use Rattle.rows.proofs.PortLaws.{port-flows-same, port-figure-same, figure-of-port, figures-of}
 use Rattle.analysis.specs.Analysis.{refusedAt, answer9, answer10, analysisAnswer}
 use Rattle.order.specs.Exact.{Passed, NoLength, EndlessQueue, FromLower, EndlessPort, Jitters-exist, One-list-of-flows, FirstOf, NoneOf, FirstVl, NoVl, FirstPort, NoPort, Exact-9, Exact-10, Exact-accepted, OneOfThree, is-9, is-10, is-accepted, Exact-three}
 use Rattle.analysis.specs.Judging.{judged}
@@ -88,15 +88,13 @@ module _ (net : Network) (v : ℕ) where
 -- ---- the ports
 -- where no reference is bad there are jitters from the lower ports' figures
 jitters-of : (net : Network) → References net → (p : ℕ) → FromLower net p (portFigure net (jitterOf net)) (jitterOf net)
-unfolding figureOf
 jitters-of net refs p =
     let keeps = figures-of net refs in
-    record { figure-is = λ q b. refl; root-is = λ h l b e. keeps .root-is h l e; child-is = λ h g l b e. keeps .child-is h g l e }
+    record { figure-is = λ q b. refl; root-is = λ h l b e. keeps .root-is h l e; child-is = λ h g l b e. rw (← figure-of-port net g) (keeps .child-is h g l e) }
 
 -- and they are the hops' own, by induction on the port number: a hop's jitter is of its parent's, which is on a lower port, and of that port's figure
 flows-of : (net : Network) → References net → (p : ℕ) (figureAt jitterAt : ℕ → ℕ) → FromLower net p figureAt jitterAt
     → portFlows net jitterAt p ≡ portFlows net (jitterOf net) p
-unfolding figureOf
 flows-of net refs p figureAt jitterAt lower = port-flows-same net jitterAt (jitterOf net) p (λ h l e. same (suc p) h l (omega arith) (omega arith))
   where
     same : (n h : ℕ) → h < length (net .hops) → hopAt net h .port < n → n ≤ suc p → jitterAt h ≡ jitterOf net h
@@ -112,7 +110,8 @@ flows-of net refs p figureAt jitterAt lower = port-flows-same net jitterAt (jitt
             lower .child-is h g l (omega arith) e
             ∙ ap₂ (childJitter net h g) (ih g row (omega arith) (omega arith))
             (lower .figure-is (hopAt net g .port) (omega arith)
-            ∙ port-figure-same net jitterAt (jitterOf net) (hopAt net g .port) (λ i a c. ih i a (omega arith) (omega arith)))
+            ∙ port-figure-same net jitterAt (jitterOf net) (hopAt net g .port) (λ i a c. ih i a (omega arith) (omega arith))
+            ∙ sym (figure-of-port net g))
             ∙ sym (figures-of net refs .child-is h g l e)
 
 endless-port : (net : Network) → References net → (p : ℕ) → (endless net p ≡ true) ↔ EndlessPort net p

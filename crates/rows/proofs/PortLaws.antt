@@ -14,7 +14,7 @@ use Rattle.network.specs.ReferenceFacts.{References}
 use Rattle.network.proofs.PortLaws.{on-port}
 use Rattle.station.specs.Station.{Flow, busyLength, figure}
 use Rattle.rows.specs.Links.{hopMost}
-use Rattle.rows.specs.Ports.{hopFlow, portFlows, portLength, portFigure, rootJitter, childJitter, Figures, jitterBelow, jitterOf, figureOf}
+use Rattle.rows.specs.Ports.{hopFlow, portFlows, portLength, portFigure, hopFigure, rootJitter, childJitter, Figures, jitterBelow, jitterOf, figureOf}
 
 -- a list under two functions that agree on its members
 pub map-same : {A B : Type 0} (f g : A → B) (l : List A) → ((x : A) → List·Memᴰ x l → f x ≡ g x) → map f l ≡ map g l
@@ -33,21 +33,35 @@ module _ (net : Network) where
   unfolding portFigure portLength
   port-figure-same i j p same = ap (λ (fs : List Flow). figure fs (numberOr0 (busyLength fs))) (port-flows-same i j p same)
 
+  -- the figure of a hop is its port's
+  pub hop-figure-is : (jitter : ℕ → ℕ) (h : ℕ) → hopFigure net jitter h ≡ portFigure net jitter (hopAt net h .port)
+  unfolding hopFigure
+  hop-figure-is jitter h = refl
+
+  pub figure-of-port : (h : ℕ) → figureOf net h ≡ portFigure net (jitterOf net) (hopAt net h .port)
+  unfolding figureOf
+  figure-of-port = hop-figure-is (jitterOf net)
+
+  -- it asks only for jitters of the hops on its port
+  hop-figure-same : (i j : ℕ → ℕ) (g : ℕ) → ((h : ℕ) → h < length (net .hops) → hopAt net h .port ≡ hopAt net g .port → i h ≡ j h) → hopFigure net i g ≡ hopFigure net j g
+  unfolding hopFigure
+  hop-figure-same i j g same = port-figure-same i j (hopAt net g .port) same
+
   -- the rules for one hop, of a solution's step
   jitter-root : (n h : ℕ) → parentAt net h ≡ none → jitterBelow net (suc n) h ≡ rootJitter net h
   unfolding jitterBelow
   jitter-root n h e = ap (λ (o : Option ℕ). elim o [
     | none ↦ rootJitter net h
-    | some g ↦ childJitter net h g (jitterBelow net n g) (portFigure net (jitterBelow net n) (hopAt net g .port))
+    | some g ↦ childJitter net h g (jitterBelow net n g) (hopFigure net (jitterBelow net n) g)
   ]) e
 
   jitter-child :
       (n h g : ℕ) → parentAt net h ≡ some g
-      → jitterBelow net (suc n) h ≡ childJitter net h g (jitterBelow net n g) (portFigure net (jitterBelow net n) (hopAt net g .port))
+      → jitterBelow net (suc n) h ≡ childJitter net h g (jitterBelow net n g) (hopFigure net (jitterBelow net n) g)
   unfolding jitterBelow
   jitter-child n h g e = ap (λ (o : Option ℕ). elim o [
     | none ↦ rootJitter net h
-    | some g ↦ childJitter net h g (jitterBelow net n g) (portFigure net (jitterBelow net n) (hopAt net g .port))
+    | some g ↦ childJitter net h g (jitterBelow net n g) (hopFigure net (jitterBelow net n) g)
   ]) e
 
   module _ (refs : References net) where
@@ -68,7 +82,7 @@ module _ (net : Network) where
             let low = refs .parent-port h g l e in
             jitter-child n h g e
             ∙ ap₂ (childJitter net h g) (ih g row (omega arith) (omega arith))
-            (port-figure-same (jitterBelow net n) (jitterBelow net m) (hopAt net g .port) (λ i a c. ih i a (omega arith) (omega arith)))
+            (hop-figure-same (jitterBelow net n) (jitterBelow net m) g (λ i a c. ih i a (omega arith) (omega arith)))
             ∙ sym (jitter-child m h g e)
 
     -- the jitters and figures of rows keep 01's rules
@@ -82,14 +96,14 @@ module _ (net : Network) where
 
         child :
             (n h g : ℕ) → h < length (net .hops) → parentAt net h ≡ some g → hopAt net h .port < n
-            → jitterBelow net n h ≡ childJitter net h g (jitterBelow net n g) (portFigure net (jitterBelow net n) (hopAt net g .port))
+            → jitterBelow net n h ≡ childJitter net h g (jitterBelow net n g) (hopFigure net (jitterBelow net n) g)
         child zero h g l e k = absurd (omega arith)
         child (suc n) h g l e k =
             let row = row-of-parent h g l e in
             let low = refs .parent-port h g l e in
             jitter-child n h g e
             ∙ ap₂ (childJitter net h g) (settled n (suc n) g row (omega arith) (omega arith))
-            (port-figure-same (jitterBelow net n) (jitterBelow net (suc n)) (hopAt net g .port) (λ i a c. settled n (suc n) i a (omega arith) (omega arith)))
+            (hop-figure-same (jitterBelow net n) (jitterBelow net (suc n)) g (λ i a c. settled n (suc n) i a (omega arith) (omega arith)))
 
     -- and any that keep them are these
     module _ (f₁ j₁ f₂ j₂ : ℕ → ℕ) (one : Figures net f₁ j₁) (two : Figures net f₂ j₂) where
@@ -104,14 +118,14 @@ module _ (net : Network) where
               let low = refs .parent-port h g l e in
               one .child-is h g l e
               ∙ ap₂ (childJitter net h g) (ih g row (omega arith))
-              (one .figure-is g row ∙ port-figure-same j₁ j₂ (hopAt net g .port) (λ i a c. ih i a (omega arith)) ∙ sym (two .figure-is g row))
+              (one .figure-is g row ∙ hop-figure-same j₁ j₂ g (λ i a c. ih i a (omega arith)) ∙ sym (two .figure-is g row))
               ∙ sym (two .child-is h g l e)
 
       pub jitters-agree : (h : ℕ) → h < length (net .hops) → j₁ h ≡ j₂ h
       jitters-agree h l = same-below (suc (hopAt net h .port)) h l (le-refl (suc (hopAt net h .port)))
 
       pub figures-agree : (h : ℕ) → h < length (net .hops) → f₁ h ≡ f₂ h
-      figures-agree h l = one .figure-is h l ∙ port-figure-same j₁ j₂ (hopAt net h .port) (λ i a c. jitters-agree i a) ∙ sym (two .figure-is h l)
+      figures-agree h l = one .figure-is h l ∙ hop-figure-same j₁ j₂ h (λ i a c. jitters-agree i a) ∙ sym (two .figure-is h l)
 
     module _ (figureAt jitterAt : ℕ → ℕ) (keeps : Figures net figureAt jitterAt) where
       pub jitter-unique : (h : ℕ) → h < length (net .hops) → jitterAt h ≡ jitterOf net h

@@ -24,6 +24,10 @@ portLength net jitter p = busyLength (portFlows net jitter p)
 unfoldable pub portFigure : Network → (ℕ → ℕ) → ℕ → ℕ
 portFigure net jitter p = figure (portFlows net jitter p) (numberOr0 (portLength net jitter p))
 
+-- the figure of a hop: "An idle port sends the head of its FIFO", in order of arrival, so all frames of a port have one figure, the port's
+unfoldable pub hopFigure : Network → (ℕ → ℕ) → ℕ → ℕ
+hopFigure net jitter h = portFigure net jitter (hopAt net h .port)
+
 -- "Jitter of a hop without parent: mux wait + (20 + Lmax − 84) × ticks per byte of the end system + switch delay greatest − least."
 unfoldable pub rootJitter : Network → ℕ → ℕ
 rootJitter net h = muxWait net (hopAt net h .vl) + sendSpread net (hopAt net h .vl) + hopSpread net h
@@ -32,9 +36,9 @@ rootJitter net h = muxWait net (hopAt net h .vl) + sendSpread net (hopAt net h .
 unfoldable pub childJitter : Network → ℕ → ℕ → ℕ → ℕ → ℕ
 childJitter net h g parentJitter parentFigure = parentJitter + (parentFigure - hopLine net g) + hopSpread net h
 
--- figures and jitters of the hops that keep these rules; a figure is read per hop
+-- figures and jitters of the hops that keep these rules
 pub record Figures (net : Network) (figureAt jitterAt : ℕ → ℕ) : Type 0 where
-  pub figure-is : (h : ℕ) → h < length (net .hops) → figureAt h ≡ portFigure net jitterAt (hopAt net h .port)
+  pub figure-is : (h : ℕ) → h < length (net .hops) → figureAt h ≡ hopFigure net jitterAt h
   pub root-is : (h : ℕ) → h < length (net .hops) → parentAt net h ≡ none → jitterAt h ≡ rootJitter net h
   pub child-is : (h g : ℕ) → h < length (net .hops) → parentAt net h ≡ some g
       → jitterAt h ≡ childJitter net h g (jitterAt g) (figureAt g)
@@ -44,11 +48,11 @@ unfoldable pub jitterBelow : Network → ℕ → ℕ → ℕ
 jitterBelow net zero h = 0
 jitterBelow net (suc n) h = elim (parentAt net h) [
   | none ↦ rootJitter net h
-  | some g ↦ childJitter net h g (jitterBelow net n g) (portFigure net (jitterBelow net n) (hopAt net g .port))
+  | some g ↦ childJitter net h g (jitterBelow net n g) (hopFigure net (jitterBelow net n) g)
 ]
 
 unfoldable pub jitterOf : Network → ℕ → ℕ
 jitterOf net = jitterBelow net (length (net .ports))
 
 unfoldable pub figureOf : Network → ℕ → ℕ
-figureOf net h = portFigure net (jitterOf net) (hopAt net h .port)
+figureOf net = hopFigure net (jitterOf net)

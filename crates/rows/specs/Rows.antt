@@ -11,6 +11,11 @@ use Rattle.rows.specs.Links.{sendMost, sendLine, muxWait, hopLine}
 use Rattle.rows.specs.Queues.{queueFigure}
 use Rattle.rows.specs.Ports.{figureOf}
 
+-- two numbers for each of a list, one after the other
+unfoldable pub twoEach : {A : Type 0} → (A → ℕ) → (A → ℕ) → List A → List ℕ
+twoEach f g [] = []
+twoEach f g (x ∷ xs) = f x ∷ g x ∷ twoEach f g xs
+
 -- the queue figure of a stream's sub-link
 unfoldable pub queueOf : Network → ℕ → ℕ
 queueOf net s = queueFigure net (streamAt net s .vl) (streamAt net s .sublink)
@@ -20,7 +25,7 @@ queueOf net s = queueFigure net (streamAt net s .vl) (streamAt net s .sublink)
 unfoldable pub worstParts : Network → (ℕ → ℕ) → ℕ → ℕ → List ℕ
 worstParts net figureAt s h =
     net .sendGreatest ∷ queueOf net s ∷ muxWait net (streamAt net s .vl) ∷ sendMost net (streamAt net s .vl)
-    ∷ (map (λ g. portAt net (hopAt net g .port) .greatest + figureAt g) (route net h) ++ (net .receiveGreatest ∷ []))
+    ∷ (twoEach (λ g. portAt net (hopAt net g .port) .greatest) figureAt (route net h) ++ (net .receiveGreatest ∷ []))
 
 unfoldable pub worst : Network → ℕ → ℕ → ℕ
 worst net s h = total (worstParts net (figureOf net) s h)
@@ -30,7 +35,7 @@ unfoldable pub bestParts : Network → ℕ → ℕ → List ℕ
 bestParts net s h =
     let v = streamAt net s .vl in
     net .sendLeast ∷ (packets (streamAt net s .least) (vlAt net v .lmax) - 1) * vlAt net v .gap ∷ sendLine net v
-    ∷ (map (λ g. hopLine net g + portAt net (hopAt net g .port) .least) (route net h) ++ (net .receiveLeast ∷ []))
+    ∷ (twoEach (hopLine net) (λ g. portAt net (hopAt net g .port) .least) (route net h) ++ (net .receiveLeast ∷ []))
 
 unfoldable pub best : Network → ℕ → ℕ → ℕ
 best net s h = total (bestParts net s h)

@@ -10,7 +10,8 @@ use Rattle.network.specs.Views.{route}
 use Rattle.sheet.specs.Sheet.{networkOn}
 use Rattle.analysis.specs.Placing.{routeLeast}
 use Rattle.analysis.proofs.RangeLaws.{port-range, hop-names, parent-there, parent-read}
-use Rattle.analysis.proofs.RowLaws.{along, along-root, along-child, along-none, leastAt, route-least-is, least-read}
+use Rattle.rows.proofs.RowLaws.{leastAt}
+use Rattle.analysis.proofs.RowLaws.{along, along-root, along-child, along-none, route-least-is, least-read}
 use borrow.Author.Needs.{needs}
 use Rattle.analysis.proofs.results.route_least.Statement.{statement}
 use Rattle.analysis.proofs.results.route_least.Tie as tie

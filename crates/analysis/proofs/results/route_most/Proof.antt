@@ -12,7 +12,8 @@ use Rattle.sheet.specs.Sheet.{networkOn}
 use Rattle.analysis.specs.Placing.{routeMost}
 use Rattle.analysis.proofs.BoundLaws.{port-figure-bound}
 use Rattle.analysis.proofs.RangeLaws.{port-range, hop-names, parent-there, parent-read}
-use Rattle.analysis.proofs.RowLaws.{along, along-root, along-child, along-none, mostAt, route-most-is, most-read}
+use Rattle.rows.proofs.RowLaws.{mostAt}
+use Rattle.analysis.proofs.RowLaws.{along, along-root, along-child, along-none, route-most-is, most-read}
 use borrow.Author.Needs.{needs}
 use Rattle.analysis.proofs.results.route_most.Statement.{statement}
 use Rattle.analysis.proofs.results.route_most.Tie as tie
