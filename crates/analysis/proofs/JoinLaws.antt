@@ -13,7 +13,7 @@ use Rattle.network.specs.Views.{leaf, leavesOf}
 use Rattle.rows.specs.Rows.{rowOf, rowsTo, rowsOf}
 use Rattle.table.specs.Sections.{lent}
 use Rattle.table.proofs.LentLaws.{lent-none, length-lent}
-use Rattle.analysis.specs.Analysis.{joined}
+use Rattle.answers.specs.Analysis.{joined}
 use Rattle.analysis.specs.Placing.{putAt, Put}
 use Rattle.analysis.proofs.RowLaws.{leavesTo, rowsWith, rowsUpTo, length-rows-with, rows-up-to-all, rows-up-to-hit, rows-fit}
 

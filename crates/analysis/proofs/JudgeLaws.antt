@@ -23,10 +23,12 @@ use Rattle.table.specs.Sections.{headerRow, from, lent}
 use Rattle.table.specs.Unpack.{answer1, answer2, answer3, badRow, badSection, answerAtRow, answer4, left}
 use Rattle.table.specs.Read.{networkIn, badRefSection, answerAtReference, answer5, answer6, readAnswer}
 use Rattle.unpacker.proofs.ListLaws.{cleared-length}
+use Rattle.answers.proofs.AcceptedLaws.{reader-refuses, reader-accepts}
 use Rattle.rows.specs.Rows.{rowsOf}
 use Rattle.rows.specs.Refusals.{sendsLate, lateSystem, tooManyRows, tooShort, endlessSubLink, endlessVl, endless, endlessPort}
 use Rattle.analysis.specs.declared.Analysed.{Analysed}
-use Rattle.analysis.specs.Analysis.{refusedAt, answer7, answer8, answer9, answer10, analysisAnswer, accepts, joined, rowsLeft, rowsGiven, Analyses}
+use Rattle.answers.specs.Analysis.{refusedAt, answer7, answer8, answer9, answer10, analysisAnswer, accepts, joined, rowsLeft, rowsGiven}
+use Rattle.analysis.specs.Analysis.{Analyses}
 use Rattle.sheet.specs.Sheet.{networkOn, Good}
 use Rattle.analysis.specs.Computing.{First, Waits, Queues, Figures}
 use Rattle.analysis.specs.Placing.{Known}
@@ -153,79 +155,26 @@ pub cleared-is : (cleared : List ℕ) (n : ℕ) → cleared ≡ replicate n 0 �
 cleared-is cleared n zero = zero ∙ ap (λ (m : ℕ). replicate m 0) (sym (cleared-length cleared n zero))
 
 -- ---- 1 to 6 before them
--- a refusal is the answer, whatever comes behind it
-first-stays : (xs ys : List (Option Answer)) → 0 < firstGiven xs .number → firstGiven (xs ++ ys) ≡ firstGiven xs
-unfolding firstGiven
-first-stays [] ys h = absurd (omega arith)
-first-stays (none ∷ xs) ys h = first-stays xs ys h
-first-stays (some a ∷ xs) ys h = refl
-
 module _ (bytes : List ℕ) where
-  -- the six by what they test, and those behind them
-  abbrev six : Bool → Option ℕ → Bool → Option ℕ → Option ℕ → Option ℕ → List (Option Answer) → Answer
-  six short header exact section reference sample rest =
-      let net = networkIn bytes in
-      firstGiven
-      (pick short (some (answer 1 0 0 0)) none
-      ∷ (elim header [ none ↦ none | some test ↦ some (answer 2 0 0 test) ])
-      ∷ pick exact none (some (answer 3 0 0 0))
-      ∷ (elim section [ none ↦ none | some s ↦ some (answerAtRow bytes s (numberOr0 (badRow bytes s))) ])
-      ∷ (elim reference [ none ↦ none | some s ↦ some (answerAtReference net s (numberOr0 (badReference net s))) ])
-      ∷ (elim sample [ none ↦ none | some s ↦ some (answer 6 3 s 0) ])
-      ∷ rest)
-
-  -- where the reader gives no number, none of the six is given, as each has one: the first behind them is
-  none-of-six :
-      (os : List (Option Answer)) → readAnswer bytes .number ≡ 0
-      → firstGiven (answer1 bytes ∷ answer2 bytes ∷ answer3 bytes ∷ answer4 bytes ∷ answer5 (networkIn bytes) ∷ answer6 (networkIn bytes) ∷ os) ≡ firstGiven os
-  unfolding readAnswer answer1 answer2 answer3 answer4 answerAtRow answer5 answerAtReference answer6 firstGiven
-  none-of-six os =
-      let net = networkIn bytes in
-      go (ltb (length bytes) 14) (rowFault Reading 0 (headerRow bytes)) (eqb (length bytes) (from bytes 6)) (badSection bytes) (badRefSection net) (badSample net)
-    where
-      go :
-          (short : Bool) (header : Option ℕ) (exact : Bool) (section reference sample : Option ℕ)
-          → six short header exact section reference sample [] .number ≡ 0
-          → six short header exact section reference sample os ≡ firstGiven os
-      go true header exact section reference sample h = absurd (omega arith)
-      go false (some test) exact section reference sample h = absurd (omega arith)
-      go false none false section reference sample h = absurd (omega arith)
-      go false none true (some s) reference sample h = absurd (omega arith)
-      go false none true none (some s) sample h = absurd (omega arith)
-      go false none true none none (some s) h = absurd (omega arith)
-      go false none true none none none h = refl
-
-  pub read-accepted : readAnswer bytes .number ≡ 0 → readAnswer bytes ≡ accepted
-  unfolding readAnswer firstGiven
-  read-accepted = none-of-six []
-
   module _ (room : ℕ) where
-    pub analysis-judged : readAnswer bytes ≡ accepted → analysisAnswer bytes room ≡ judged (networkIn bytes) room
-    unfolding analysisAnswer judged
-    analysis-judged e =
-        let net = networkIn bytes in
-        none-of-six (answer7 net ∷ answer8 net room ∷ answer9 net ∷ answer10 net ∷ []) (ap (λ (a : Answer). a .number) e)
-
-    pub analysis-refused : 0 < readAnswer bytes .number → analysisAnswer bytes room ≡ readAnswer bytes
-    unfolding analysisAnswer readAnswer
-    analysis-refused =
-        let net = networkIn bytes in
-        first-stays (answer1 bytes ∷ answer2 bytes ∷ answer3 bytes ∷ answer4 bytes ∷ answer5 net ∷ answer6 net ∷ []) (answer7 net ∷ answer8 net room ∷ answer9 net ∷ answer10 net ∷ [])
-
     -- ---- the analysis: the reader's refusal, and else what the sheet is judged to be
     module _ (r : Analysed) (result : List ℕ) where
       pub table-refused : (a : Answer) → a ≡ readAnswer bytes → 0 < a .number → r ≡ analysed a 0 → result ≡ replicate room 0 → Analyses bytes room r result
       unfolding rowsGiven rowsLeft accepts
       table-refused a e h is zero =
-          let given = analysis-refused (rw (← e) h) ∙ sym e in
+          let given = reader-refuses bytes room (rw (← e) h) ∙ sym e in
           let leaves = refusal-leaves (analysisAnswer bytes room) a (networkIn bytes) room r result given h is zero in
           record { answer-is = leaves .0; count-is = leaves .1; rows-are = leaves .2 }
+
+      judged-is : readAnswer bytes ≡ accepted → analysisAnswer bytes room ≡ judged (networkIn bytes) room
+      unfolding judged
+      judged-is e = reader-accepts bytes room (ap (λ (a : Answer). a .number) e)
 
       pub table-judged :
           (sheet cleared : List ℕ) → readAnswer bytes ≡ accepted → networkOn sheet ≡ networkIn bytes → cleared ≡ replicate room 0
           → Judged (networkOn sheet) (length cleared) r result → Analyses bytes room r result
       unfolding rowsGiven rowsLeft accepts
       table-judged sheet cleared e same zero j =
-          let given = analysis-judged e in
+          let given = judged-is e in
           let k = rw (same, cleared-length cleared room zero) at j in
           record { answer-is = k .answer-is ∙ sym given; count-is = rw given (k .count-is); rows-are = rw given (k .rows-are) }

@@ -12,7 +12,7 @@ use Rattle.table.specs.declared.Answer.{Answer}
 use Rattle.table.specs.Answers.{firstGiven}
 use Rattle.table.specs.Unpack.{left}
 use Rattle.analysis.specs.declared.Analysed.{Analysed}
-use Rattle.analysis.specs.Analysis.{answer7, answer8, answer9, answer10, joined}
+use Rattle.answers.specs.Analysis.{answer7, answer8, answer9, answer10, joined}
 
 abbrev pub analysed : Answer → ℕ → Analysed
 analysed a rows = record { answer = a; rows = rows }

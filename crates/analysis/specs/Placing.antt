@@ -11,7 +11,7 @@ use Rattle.rows.specs.Links.{hopLine}
 use Rattle.rows.specs.Ports.{figureOf}
 use Rattle.rows.specs.Rows.{rowsTo, rowsOf}
 use Rattle.table.specs.Sections.{lent}
-use Rattle.analysis.specs.Analysis.{joined}
+use Rattle.answers.specs.Analysis.{joined}
 use Rattle.sheet.specs.Sheet.{networkOn, Good}
 use Rattle.analysis.specs.Computing.{Waits, Queues, Figures, Leaves}
 

@@ -17,7 +17,7 @@ ghost use Rattle.network.specs.Network.{streamAt};
 ghost use Rattle.table.specs.Sections.{lent};
 ghost use Rattle.network.specs.Views.{leavesOf, route};
 ghost use Rattle.rows.specs.Rows.{queueOf, worst, best, rowOf, rowsTo, rowsOf};
-ghost use Rattle.analysis.specs.Analysis.{joined};
+ghost use Rattle.answers.specs.Analysis.{joined};
 ghost use Rattle.sheet.specs.Sheet.{networkOn, Good};
 ghost use Rattle.analysis.specs.Computing.{Queues, Figures, Leaves};
 ghost use Rattle.analysis.specs.Placing.{Known, Putting, Put, Room, putAt, routeMost, routeLeast};

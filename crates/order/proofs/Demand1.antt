@@ -9,8 +9,8 @@ use lib.Dec.{eqb}
 use Rattle.table.specs.declared.Answer.{Answer}
 use Rattle.table.specs.Unpack.{unpackAnswer, unpacks, left, taken}
 use Rattle.table.specs.Write.{writeAnswer, writes}
-use Rattle.analysis.specs.Analysis.{analysisAnswer, accepts, rowsLeft, rowsGiven}
-use Rattle.analysis.proofs.JudgeLaws.{analysis-refused}
+use Rattle.answers.specs.Analysis.{analysisAnswer, accepts, rowsLeft, rowsGiven}
+use Rattle.answers.proofs.AcceptedLaws.{reader-refuses}
 use Rattle.order.specs.Demand1.{Demand-1}
 
 -- an answer with a number is no acceptance
@@ -23,7 +23,7 @@ demand-1 = record {
   analysis = λ bytes room r result a.
       let no : 0 < r .answer .number → accepts bytes room ≡ false = refused (r .answer) (analysisAnswer bytes room) (a .answer-is) in
       record { answer = a .answer-is; no-rows = λ h. a .count-is ∙ rw (no h); all-zero = λ h. a .rows-are ∙ rw (no h) };
-  reader = λ bytes r e. record { answer = e; analysis-alike = λ h room. analysis-refused bytes room (rw e at h) ∙ sym e };
+  reader = λ bytes r e. record { answer = e; analysis-alike = λ h room. reader-refuses bytes room (rw e at h) ∙ sym e };
   unpacker = λ bytes n r delays systems vls streams ports hops u.
       let no : 0 < r .answer .number → unpacks bytes n ≡ false = refused (r .answer) (unpackAnswer bytes n) (u .answer) in
       record {

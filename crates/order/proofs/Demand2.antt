@@ -5,9 +5,9 @@ use Rattle.table.proofs.RoundTrip.{unpack-after-write, write-after-unpack, dete
 use Rattle.table.specs.Read.{networkIn}
 use Rattle.table.specs.Unpack.{left}
 use Rattle.rows.proofs.PortLaws.{figures-of, figure-unique, jitter-unique}
-use Rattle.analysis.specs.Analysis.{rowsLeft, rowsGiven}
+use Rattle.answers.specs.Analysis.{rowsLeft, rowsGiven}
 use Rattle.order.specs.Demand2.{Demand-2}
-use Rattle.order.proofs.AcceptedLaws.{accepted-was, accepts-so}
+use Rattle.answers.proofs.AcceptedLaws.{accepted-was, accepts-so}
 use Rattle.order.proofs.SoundLaws.{accepted-references, accepted-sound, accepted-busy}
 use Rattle.order.proofs.Exact.{exact-9, exact-10, exact-accepted, exact-three, jitters-exist, one-list-of-flows}
 use Rattle.order.proofs.CutOffLaws.{nothing-cut-off}

@@ -10,14 +10,14 @@ use Rattle.network.specs.ReferenceFacts.{References}
 use Rattle.table.specs.Sections.{lent}
 use Rattle.table.specs.Read.{networkIn}
 use Rattle.rows.specs.Rows.{queueOf, worst, best, rowsOf}
-use Rattle.analysis.specs.Analysis.{joined}
+use Rattle.answers.specs.Analysis.{joined}
 use Rattle.machine.specs.Messages.{Message}
 use Rattle.machine.specs.Machine.{Run, released}
 use Rattle.machine.specs.OverNetworks.{SentTo}
 use Rattle.machine.specs.OverNetworks as Machine
 use Rattle.machine.proofs.OverNetworks.{demand-3-over-networks as machines}
 use Rattle.order.specs.Demand3.{streamIn, hopIn, Holds, Demand-3}
-use Rattle.order.proofs.AcceptedLaws.{accepted-was}
+use Rattle.answers.proofs.AcceptedLaws.{accepted-was}
 use Rattle.order.proofs.SoundLaws.{accepted-references, accepted-sound, accepted-busy}
 use Rattle.order.proofs.RowLaws.{row-at, row-for, row-of}
 use Rattle.order.proofs.Demand2.{demand-2}

@@ -28,10 +28,9 @@ use Rattle.rows.specs.Queues.{queueFlows, queueLength}
 use Rattle.rows.specs.Ports.{portFlows, portLength, portFigure, childJitter, jitterOf}
 use Rattle.rows.specs.Refusals.{endlessSubLink, endlessVl, endless, endlessPort}
 use Rattle.rows.proofs.PortLaws.{port-flows-same, port-figure-same, figure-of-port, figures-of}
-use Rattle.analysis.specs.Analysis.{refusedAt, answer9, answer10, analysisAnswer}
+use Rattle.answers.specs.Analysis.{refusedAt, answer9, answer10, analysisAnswer}
 use Rattle.order.specs.Exact.{Passed, NoLength, EndlessQueue, FromLower, EndlessPort, Jitters-exist, One-list-of-flows, FirstOf, NoneOf, FirstVl, NoVl, FirstPort, NoPort, Exact-9, Exact-10, Exact-accepted, OneOfThree, is-9, is-10, is-accepted, Exact-three}
-use Rattle.analysis.specs.Judging.{judged}
-use Rattle.analysis.proofs.JudgeLaws.{analysis-judged}
+use Rattle.answers.proofs.AcceptedLaws.{reader-accepts}
 
 -- ---- flows without a busy length
 endless-flows : (fs : List Flow) → (not (isSome (busyLength fs)) ≡ true) ↔ NoLength fs
@@ -204,8 +203,8 @@ last-accepted vl port = (was vl port, λ e. ap₂ last (e .0) (e .1))
 -- behind 1 to 8 they are the answer
 module _ (bytes : List ℕ) (room : ℕ) (passed : Passed bytes room) where
   behind-8 : analysisAnswer bytes room ≡ last (endlessVl (networkIn bytes)) (endlessPort (networkIn bytes))
-  unfolding judged firstGiven answer9 answer10
-  behind-8 = analysis-judged bytes room (passed .read) ∙ rw (passed .none-7, passed .none-8)
+  unfolding firstGiven answer9 answer10
+  behind-8 = reader-accepts bytes room (ap (λ (a : Answer). a .number) (passed .read)) ∙ rw (passed .none-7, passed .none-8)
 
 pub jitters-exist : Jitters-exist
 jitters-exist bytes room passed = jitters-of (networkIn bytes) (read-references bytes (passed .read))

@@ -1,4 +1,3 @@
-pub mod AcceptedLaws
 pub mod SoundLaws
 pub mod RowLaws
 pub mod Exact

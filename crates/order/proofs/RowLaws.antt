@@ -24,7 +24,7 @@ use Rattle.table.specs.Sections.{lent}
 use Rattle.table.proofs.LentLaws.{lent-at}
 use Rattle.network.specs.Views.{isParent, leaf, leavesOf}
 use Rattle.rows.specs.Rows.{queueOf, worst, best, rowOf, rowsTo, rowsOf}
-use Rattle.analysis.specs.Analysis.{joined}
+use Rattle.answers.specs.Analysis.{joined}
 use Rattle.order.specs.Demand3.{streamIn, hopIn, queueIn, worstIn, bestIn, RowFor, RowOf}
 
 -- ---- rows of six numbers, one after the other

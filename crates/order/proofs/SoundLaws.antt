@@ -24,7 +24,7 @@ use Rattle.rows.specs.Queues.{queueLength}
 use Rattle.rows.specs.Ports.{portLength, jitterOf}
 use Rattle.rows.specs.Refusals.{sendsLate, lateSystem, endlessSubLink, endlessVl, endless, endlessPort}
 use Rattle.machine.specs.Sound.{Sound, Has, Busy}
-use Rattle.order.proofs.AcceptedLaws.{Accepts}
+use Rattle.answers.proofs.AcceptedLaws.{Accepts}
 
 -- a byte takes a tick at least
 takes-time : (perByte : ℕ) → SpeedRange perByte → 0 < perByte

@@ -40,7 +40,8 @@ use Rattle.rows.specs.Ports.{portLength, jitterOf}
 use Rattle.rows.specs.Rows.{rowsOf}
 use Rattle.rows.specs.Refusals.{sendsLate, lateSystem, tooManyRows, tooShort, endlessSubLink, endlessVl, endless, endlessPort}
 use Rattle.analysis.specs.declared.Analysed.{Analysed}
-use Rattle.analysis.specs.Analysis.{refusedAt, answer7, answer8, answer9, answer10, analysisAnswer, joined, rowsLeft, rowsGiven, Analyses}
+use Rattle.answers.specs.Analysis.{refusedAt, answer7, answer8, answer9, answer10, refusals, analysisAnswer, joined, rowsLeft, rowsGiven}
+use Rattle.analysis.specs.Analysis.{Analyses}
 use Rattle.machine.specs.Sound.{Has}
 use Rattle.machine.proofs.Whole.{whole, busy}
 use Rattle.machine.proofs.Whole as Machine
@@ -132,7 +133,7 @@ unfolding answer10 refusedAt
 none-10 = rw (network-is, no-endless-port)
 
 accepted-with : (room : ℕ) → 12 ≤ room → analysisAnswer table room ≡ accepted
-unfolding analysisAnswer firstGiven
+unfolding analysisAnswer refusals firstGiven
 accepted-with room h = rw (none-1, none-2, none-3, none-4, none-5, none-6, none-7, none-8 room h, none-9, none-10)
 
 -- ---- its rows

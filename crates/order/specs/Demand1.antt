@@ -13,7 +13,8 @@ use Rattle.table.specs.Unpack.{Lengths, unpackAnswer, Unpacks}
 use Rattle.table.specs.Write.{Lists, writeAnswer, Writes}
 use Rattle.table.specs.Read.{readAnswer}
 use Rattle.analysis.specs.declared.Analysed.{Analysed}
-use Rattle.analysis.specs.Analysis.{analysisAnswer, Analyses}
+use Rattle.answers.specs.Analysis.{analysisAnswer}
+use Rattle.analysis.specs.Analysis.{Analyses}
 
 -- the analysis of a table, with a lent result of `room` numbers: the first of 01's answers 1 to 10 that is given,
 -- and on a refusal no row and zeros

@@ -28,7 +28,8 @@ use Rattle.rows.specs.Queues.{queueFlows, queueLength}
 use Rattle.rows.specs.Ports.{Figures, figureOf, jitterOf}
 use Rattle.rows.specs.Rows.{worst, best, rowsOf}
 use Rattle.analysis.specs.declared.Analysed.{Analysed}
-use Rattle.analysis.specs.Analysis.{analysisAnswer, joined, Analyses}
+use Rattle.answers.specs.Analysis.{analysisAnswer, joined}
+use Rattle.analysis.specs.Analysis.{Analyses}
 use Rattle.order.specs.Exact.{Exact-9, Exact-10, Exact-accepted, Exact-three, Jitters-exist, One-list-of-flows}
 
 -- "Each figure equals what 01 lays down": the lent result holds 01's rows of the network that the bytes describe, and then zeros

@@ -14,7 +14,7 @@ use Rattle.table.specs.Answers.{answer, accepted}
 use Rattle.table.specs.Read.{networkIn, readAnswer}
 use Rattle.rows.specs.Queues.{queueFlows}
 use Rattle.rows.specs.Ports.{portFlows, portFigure, rootJitter, childJitter, jitterOf}
-use Rattle.analysis.specs.Analysis.{answer7, answer8, analysisAnswer}
+use Rattle.answers.specs.Analysis.{answer7, answer8, analysisAnswer}
 
 -- "Where refusals 1 to 8 do not apply"
 pub record Passed (bytes : List ℕ) (room : ℕ) : Type 0 where

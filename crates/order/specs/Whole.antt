@@ -9,7 +9,8 @@ use Rattle.table.specs.Answers.{accepted}
 use Rattle.table.specs.Sections.{lent}
 use Rattle.table.specs.Read.{networkIn}
 use Rattle.analysis.specs.declared.Analysed.{Analysed}
-use Rattle.analysis.specs.Analysis.{analysisAnswer, Analyses}
+use Rattle.answers.specs.Analysis.{analysisAnswer}
+use Rattle.analysis.specs.Analysis.{Analyses}
 use Rattle.machine.specs.Messages.{Message}
 use Rattle.machine.specs.Machine.{Run, released}
 use Rattle.machine.specs.Permitted.{PermittedBelow}

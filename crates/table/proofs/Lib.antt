@@ -1,4 +1,5 @@
 pub mod LentLaws
+pub mod FirstLaws
 pub mod AnswerLaws
 pub mod SectionLaws
 pub mod WriteLaws

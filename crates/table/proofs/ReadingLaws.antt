@@ -1,92 +1,55 @@
 -- The reader over the unpacker: lists with room for every good header never give 11, so the two agree on answers 1 to 4; and what the lists then hold is what the reader's network is made of.
 -- Assumes nothing.
 use Prim.Native.Nat.{ℕ, _*_, _≤_, _<_}
-use mathlib.Core.Bool.{Bool, true, false}
-use mathlib.Core.List.{List, [], _∷_}
-use mathlib.Core.Option.{Option, none, some, Option·some-ne-none}
-use mathlib.Core.Path.{_≡_, refl, ap}
+use mathlib.Core.List.{List, [], _∷_, _++_}
+use mathlib.Core.Option.{Option, none, some}
+use mathlib.Core.Path.{_≡_, sym, ap, _∙_}
 use native.Mathlib.Omega.{arith}
 use borrow.Author.Tests.{le-leb}
 use lib.Dec.{ltb, eqb}
 use lib.ListN.{length}
-use Rattle.base.specs.Pick.{pick}
 use Rattle.base.specs.Tests.{numberOr0}
 use Rattle.layout.specs.declared.Way.the-variants.{Reading}
 use Rattle.layout.specs.Rows.{listed, rowFault}
 use Rattle.layout.proofs.LayoutLaws.{listed-is}
 use Rattle.layout.proofs.PlainLaws.{header-plain}
-use Rattle.network.specs.Network.{Network}
-use Rattle.network.specs.References.{badReference}
+use Rattle.network.specs.References.{badReference, badSample}
 use Rattle.table.specs.declared.Answer.{Answer}
 use Rattle.table.specs.Answers.{answer, accepted, firstGiven}
 use Rattle.table.specs.Sections.{headerRow, rows, from}
 use Rattle.table.specs.Unpack.{answer1, answer2, answer3, badRow, badSection, answerAtRow, answer4, Lengths, needs, answer11, unpackAnswer}
 use Rattle.table.specs.Read.{networkIn, badRefSection, answerAtReference, answer5, answer6, readAnswer}
+use Rattle.table.proofs.FirstLaws.{Refuse, NoneGiven, none-given, none-accepts, first-behind, first-stays, pick-refuses, row-refuses, no-row-given}
 use Rattle.table.proofs.HeaderLaws.{header-rows}
 
--- ---- each answer that is given refuses: it has a number
-abbrev Refusing : Option Answer → Type 0
-Refusing none = Unit {0}
-Refusing (some a) = 0 < a .number
+-- ---- the answers 1 to 4 and 1 to 6, in their order: each refuses, where it is given
+abbrev pub tableRefusals : List ℕ → List (Option Answer)
+tableRefusals bytes = answer1 bytes ∷ answer2 bytes ∷ answer3 bytes ∷ answer4 bytes ∷ []
 
-pub passed : (o : Option Answer) (os : List (Option Answer)) → Refusing o → firstGiven (o ∷ os) .number ≡ 0 → (o ≡ none) × (firstGiven os .number ≡ 0)
-unfolding firstGiven
-passed none os h e = (refl, e)
-passed (some a) os h e = absurd (omega arith)
+abbrev pub readRefusals : List ℕ → List (Option Answer)
+readRefusals bytes = tableRefusals bytes ++ (answer5 (networkIn bytes) ∷ answer6 (networkIn bytes) ∷ [])
 
-by-test : (t : Bool) (a : Answer) → 0 < a .number → Refusing (pick t (some a) none) × Refusing (pick t none (some a))
-by-test true a h = (h, tt)
-by-test false a h = (tt, h)
+pub table-refuse : (bytes : List ℕ) → Refuse (tableRefusals bytes)
+unfolding answer1 answer2 answer3 answer4 answerAtRow
+table-refuse bytes = (
+  pick-refuses (ltb (length bytes) 14) (answer 1 0 0 0) none (omega arith) tt .0,
+  (
+    row-refuses (rowFault Reading 0 (headerRow bytes)) (answer 2 0 0) (λ test. omega arith),
+    (
+      pick-refuses (eqb (length bytes) (from bytes 6)) (answer 3 0 0 0) none (omega arith) tt .1,
+      (row-refuses (badSection bytes) (λ s. answerAtRow bytes s (numberOr0 (badRow bytes s))) (λ s. omega arith), tt),
+    ),
+  ),
+)
 
-module _ (bytes : List ℕ) where
-  refusing1 : Refusing (answer1 bytes)
-  unfolding answer1
-  refusing1 = by-test (ltb (length bytes) 14) (answer 1 0 0 0) (omega arith) .0
-
-  refusing2 : Refusing (answer2 bytes)
-  unfolding answer2
-  refusing2 = go (rowFault Reading 0 (headerRow bytes))
-    where
-      go : (o : Option ℕ) → Refusing (elim o [ none ↦ none | some test ↦ some (answer 2 0 0 test) ])
-      go none = tt
-      go (some test) = omega arith
-
-  refusing3 : Refusing (answer3 bytes)
-  unfolding answer3
-  refusing3 = by-test (eqb (length bytes) (from bytes 6)) (answer 3 0 0 0) (omega arith) .1
-
-  refusing4 : Refusing (answer4 bytes)
-  unfolding answer4 answerAtRow
-  refusing4 = go (badSection bytes)
-    where
-      go : (o : Option ℕ) → Refusing (elim o [ none ↦ none | some s ↦ some (answerAtRow bytes s (numberOr0 (badRow bytes s))) ])
-      go none = tt
-      go (some s) = omega arith
-
--- ---- none of the first four is given
-record Four (bytes : List ℕ) (os : List (Option Answer)) : Type 0 where
-  none1 : answer1 bytes ≡ none
-  none2 : answer2 bytes ≡ none
-  none3 : answer3 bytes ≡ none
-  none4 : answer4 bytes ≡ none
-  then : firstGiven os .number ≡ 0
-
-four : (bytes : List ℕ) (os : List (Option Answer)) → firstGiven (answer1 bytes ∷ answer2 bytes ∷ answer3 bytes ∷ answer4 bytes ∷ os) .number ≡ 0 → Four bytes os
-four bytes os e =
-    let p1 = passed (answer1 bytes) (answer2 bytes ∷ answer3 bytes ∷ answer4 bytes ∷ os) (refusing1 bytes) e in
-    let p2 = passed (answer2 bytes) (answer3 bytes ∷ answer4 bytes ∷ os) (refusing2 bytes) (p1 .1) in
-    let p3 = passed (answer3 bytes) (answer4 bytes ∷ os) (refusing3 bytes) (p2 .1) in
-    let p4 = passed (answer4 bytes) os (refusing4 bytes) (p3 .1) in
-    record { none1 = p1 .0; none2 = p2 .0; none3 = p3 .0; none4 = p4 .0; then = p4 .1 }
-
-module _ (net : Network) where
-  refusing5 : Refusing (answer5 net)
-  unfolding answer5 answerAtReference
-  refusing5 = go (badRefSection net)
-    where
-      go : (o : Option ℕ) → Refusing (elim o [ none ↦ none | some s ↦ some (answerAtReference net s (numberOr0 (badReference net s))) ])
-      go none = tt
-      go (some s) = omega arith
+pub read-refuse : (bytes : List ℕ) → Refuse (readRefusals bytes)
+unfolding answer5 answerAtReference answer6
+read-refuse bytes =
+    let net = networkIn bytes in
+    let four = table-refuse bytes in
+    let five = row-refuses (badRefSection net) (λ s. answerAtReference net s (numberOr0 (badReference net s))) (λ s. omega arith) in
+    let six = row-refuses (badSample net) (λ s. answer 6 3 s 0) (λ s. omega arith) in
+    (four .0, (four .1 .0, (four .1 .1 .0, (four .1 .1 .1 .0, (five, (six, tt))))))
 
 -- ---- the counts of a good header are in 01's limits
 pub record Few (bytes : List ℕ) : Type 0 where
@@ -150,36 +113,36 @@ module _ (bytes : List ℕ) (n : Lengths) (big : Roomy n) where
         le-leb (rows bytes 5 * listed 5) (n .hops) h5,
       )
 
-  header-good : answer2 bytes ≡ none → rowFault Reading 0 (headerRow bytes) ≡ none
-  unfolding answer2
-  header-good = go (rowFault Reading 0 (headerRow bytes))
-    where
-      go : (o : Option ℕ) → _≡_ {A = Option Answer} (elim o [ none ↦ none | some test ↦ some (answer 2 0 0 test) ]) none → o ≡ none
-      go none e = refl
-      go (some test) e = absurd (Option·some-ne-none (answer 2 0 0 test) e)
+-- a table whose header is good, as 2 is not given
+pub header-good : (bytes : List ℕ) → answer2 bytes ≡ none → rowFault Reading 0 (headerRow bytes) ≡ none
+unfolding answer2
+header-good bytes = no-row-given (rowFault Reading 0 (headerRow bytes)) (answer 2 0 0)
 
 -- ---- the table's own answer, 1 to 4: its refusal is the reader's, and where it accepts, the reader goes on with 5 and 6
 module _ (bytes : List ℕ) where
-  pub own-refused : 0 < firstGiven (answer1 bytes ∷ answer2 bytes ∷ answer3 bytes ∷ answer4 bytes ∷ []) .number
-      → firstGiven (answer1 bytes ∷ answer2 bytes ∷ answer3 bytes ∷ answer4 bytes ∷ []) ≡ readAnswer bytes
-  unfolding readAnswer firstGiven
-  own-refused = go (answer1 bytes) (answer2 bytes) (answer3 bytes) (answer4 bytes)
-    where
-      go : (o1 o2 o3 o4 : Option Answer) → 0 < firstGiven (o1 ∷ o2 ∷ o3 ∷ o4 ∷ []) .number
-          → firstGiven (o1 ∷ o2 ∷ o3 ∷ o4 ∷ []) ≡ firstGiven (o1 ∷ o2 ∷ o3 ∷ o4 ∷ answer5 (networkIn bytes) ∷ answer6 (networkIn bytes) ∷ [])
-      go (some a) o2 o3 o4 h = refl
-      go none (some a) o3 o4 h = refl
-      go none none (some a) o4 h = refl
-      go none none none (some a) h = refl
-      go none none none none h = absurd (omega arith)
+  abbrev rest : List (Option Answer)
+  rest = answer5 (networkIn bytes) ∷ answer6 (networkIn bytes) ∷ []
 
-  pub own-accepted : firstGiven (answer1 bytes ∷ answer2 bytes ∷ answer3 bytes ∷ answer4 bytes ∷ []) .number ≡ 0
-      → (unpackAnswer bytes readersLengths ≡ accepted) × (readAnswer bytes ≡ firstGiven (answer5 (networkIn bytes) ∷ answer6 (networkIn bytes) ∷ []))
-  unfolding unpackAnswer readAnswer firstGiven
+  pub own-refused : 0 < firstGiven (tableRefusals bytes) .number → firstGiven (tableRefusals bytes) ≡ readAnswer bytes
+  unfolding readAnswer
+  own-refused h = sym (first-stays (tableRefusals bytes) rest h)
+
+  -- lists with room for every table give none of 1 to 4, nor 11
+  unpacks-where : NoneGiven (tableRefusals bytes) → (n : Lengths) → Roomy n → unpackAnswer bytes n ≡ accepted
+  unfolding unpackAnswer firstGiven
+  unpacks-where p n big =
+      first-behind (tableRefusals bytes) (answer11 bytes n ∷ []) p ∙ rw (enough bytes n big (header-good bytes (p .1 .0)))
+
+  pub own-accepted : firstGiven (tableRefusals bytes) .number ≡ 0
+      → (unpackAnswer bytes readersLengths ≡ accepted) × (readAnswer bytes ≡ firstGiven rest)
+  unfolding readAnswer
   own-accepted e =
-      let p = four bytes [] e in
-      let room = enough bytes readersLengths readers-roomy (header-good bytes readersLengths readers-roomy (p .none2)) in
-      (rw (p .none1, p .none2, p .none3, p .none4, room), rw (p .none1, p .none2, p .none3, p .none4))
+      let p = none-given (tableRefusals bytes) (table-refuse bytes) e in
+      (unpacks-where p readersLengths readers-roomy, first-behind (tableRefusals bytes) rest p)
+
+  pub read-accepted : readAnswer bytes .number ≡ 0 → readAnswer bytes ≡ accepted
+  unfolding readAnswer
+  read-accepted e = none-accepts (readRefusals bytes) (none-given (readRefusals bytes) (read-refuse bytes) e)
 
 -- ---- what acceptance by the reader says: nothing was given, and the unpacker accepts too
 pub record Nothing (bytes : List ℕ) : Type 0 where
@@ -187,12 +150,10 @@ pub record Nothing (bytes : List ℕ) : Type 0 where
   pub unpacks : (n : Lengths) → Roomy n → unpackAnswer bytes n ≡ accepted
 
 pub read-accepts : (bytes : List ℕ) → readAnswer bytes ≡ accepted → Nothing bytes
-unfolding unpackAnswer readAnswer firstGiven
+unfolding readAnswer
 read-accepts bytes e =
-    let net = networkIn bytes in
-    let p = four bytes (answer5 net ∷ answer6 net ∷ []) (ap (λ (a : Answer). a .number) e) in
-    let p5 = passed (answer5 net) (answer6 net ∷ []) (refusing5 net) (p .then) in
+    let p = none-given (readRefusals bytes) (read-refuse bytes) (ap (λ (a : Answer). a .number) e) in
     record {
-      none5 = p5 .0;
-      unpacks = λ n big. rw (p .none1, p .none2, p .none3, p .none4, enough bytes n big (header-good bytes n big (p .none2)));
+      none5 = p .1 .1 .1 .1 .0;
+      unpacks = unpacks-where bytes (p .0, (p .1 .0, (p .1 .1 .0, (p .1 .1 .1 .0, tt))));
     }

@@ -1,4 +1,4 @@
--- `analysis::answers::judge` meets its contract: a return is reached past the answers before it, which are not given, and gives its own; behind 10 the rows are written.
+-- `analysis::judging::judge` meets its contract: a return is reached past the answers before it, which are not given, and gives its own; behind 10 the rows are written.
 -- Assumes nothing.
 use mathlib.Core.Option.{none}
 use mathlib.Core.Path.{_≡_}
@@ -6,12 +6,12 @@ use native.Mathlib.Omega.{arith}
 use Prim.Native.Nat.{ℕ}
 use lib.ListN.{length}
 use Rattle.network.specs.Network.{Network}
-use Rattle.analysis.specs.Analysis.{answer7, answer8, answer9}
+use Rattle.answers.specs.Analysis.{answer7, answer8, answer9}
 use Rattle.sheet.specs.Sheet.{networkOn}
 use Rattle.analysis.proofs.JudgeLaws.{known-all, given-7, none-7, given-8-many, given-8-short, none-8, given-9, none-9, given-10, none-10, judged-7, judged-8, judged-9, judged-10, judged-accepted, judged-refuses, judged-accepts}
 use borrow.Author.Needs.{needs}
-use Rattle.analysis.proofs.answers.judge.Statement.{statement}
-use Rattle.analysis.proofs.answers.judge.Tie as tie
+use Rattle.analysis.proofs.judging.judge.Statement.{statement}
+use Rattle.analysis.proofs.judging.judge.Tie as tie
 
 -- the places that the proof looks back to, each from the one behind it
 abbrev start-at : tie.After-systems-in → tie.Start

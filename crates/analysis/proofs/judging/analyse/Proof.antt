@@ -6,11 +6,12 @@ use lib.ListN.{length}
 use Rattle.table.specs.declared.Answer.{Answer}
 use Rattle.table.specs.Answers.{accepted}
 use Rattle.table.specs.Read.{readAnswer}
+use Rattle.table.proofs.ReadingLaws.{read-accepted}
 use Rattle.reader.proofs.FillLaws.{good-sheet}
-use Rattle.analysis.proofs.JudgeLaws.{cleared-is, read-accepted, table-refused, table-judged}
+use Rattle.analysis.proofs.JudgeLaws.{cleared-is, table-refused, table-judged}
 use borrow.Author.Needs.{needs}
-use Rattle.analysis.proofs.answers.analyse.Statement.{statement}
-use Rattle.analysis.proofs.answers.analyse.Tie as tie
+use Rattle.analysis.proofs.judging.analyse.Statement.{statement}
+use Rattle.analysis.proofs.judging.analyse.Tie as tie
 
 -- the places that the proof looks back to, each from the one behind it
 abbrev cleared-at : tie.After-read → tie.After-clear
