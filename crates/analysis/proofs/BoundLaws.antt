@@ -17,9 +17,11 @@ use Rattle.base.proofs.TabulateLaws.{passing-member, length-passing}
 use Rattle.base.proofs.TestLaws.{number-is, number-of-none}
 use Rattle.frame.specs.Frame.{protocolOverhead, leastLine, largestLine}
 use Rattle.frame.specs.Packets.{packets}
-use Rattle.frame.proofs.FrameLaws.{least-line-is, largest-line-bounds, protocol-overhead-is}
+use Rattle.frame.proofs.FrameLaws.{largest-line-bounds, protocol-overhead-is}
 use Rattle.frame.proofs.PacketLaws.{full-packet-is, packets-fewest, packets-some}
-use Rattle.network.specs.Network.{Network, vlAt, systemAt, streamAt, portAt, hopAt, parentAt}
+use Rattle.network.specs.Link.{systemLink, portLink}
+use Rattle.network.proofs.LinkLaws.{most-is, most-some, most-bound}
+use Rattle.network.specs.Network.{Network, vlAt, systemAt, streamAt, hopAt, parentAt}
 use Rattle.network.specs.ReferenceFacts.{References}
 use Rattle.network.specs.Views.{hopsOn, streamsOn}
 use Rattle.network.specs.References.{routeLonger}
@@ -70,29 +72,27 @@ packets-bounds m lmax a b c =
     (packets-some m lmax wide a, packets-fewest m lmax wide 482 (omega (arith, full-packet-is lmax)))
 
 module _ (net : Network) (ranges : Ranges net) (refs : References net) where
-  line-bounds : (v : ℕ) → v < length (net .vls) → (leastLine ≤ largestLine (vlAt net v .lmax)) × (largestLine (vlAt net v .lmax) ≤ 1538)
-  line-bounds v l = let vl = ranges .vl v l in largest-line-bounds (vlAt net v .lmax) (vl .lmax-least) (vl .lmax-greatest)
-
-  byte-most : (v : ℕ) → v < length (net .vls) → systemAt net (vlAt net v .system) .perbyte ≤ 10
-  byte-most v l = per-byte-bounds (systemAt net (vlAt net v .system) .perbyte) (ranges .system (vlAt net v .system) (refs .vl-system v l)) .1
+  line-least : (v : ℕ) → v < length (net .vls) → leastLine ≤ largestLine (vlAt net v .lmax)
+  line-least v l = let vl = ranges .vl v l in largest-line-bounds (vlAt net v .lmax) (vl .lmax-least) (vl .lmax-greatest) .0
 
   send-most-bound : (v : ℕ) → v < length (net .vls) → sendMost net v ≤ 15380
   unfolding sendMost
-  send-most-bound v l = mul-le-mul (line-bounds v l .1) (byte-most v l)
+  send-most-bound v l =
+      let e = vlAt net v .system in
+      most-bound (systemLink net e) (per-byte-bounds (systemAt net e .perbyte) (ranges .system e (refs .vl-system v l)) .1) (vlAt net v .lmax) (ranges .vl v l .lmax-greatest)
 
   send-spread-bound : (v : ℕ) → v < length (net .vls) → sendSpread net v ≤ 15380
-  unfolding sendSpread
-  send-spread-bound v l =
-      let less : largestLine (vlAt net v .lmax) - leastLine ≤ 1538 = omega (arith, line-bounds v l .1) in
-      mul-le-mul less (byte-most v l)
+  unfolding sendMost sendSpread
+  send-spread-bound v l = omega (arith, most-is (systemLink net (vlAt net v .system)) (vlAt net v .lmax) (line-least v l), send-most-bound v l)
 
   hop-most-bounds : (h : ℕ) → h < length (net .hops) → (1 ≤ hopMost net h) × (hopMost net h ≤ 15380)
   unfolding hopMost
   hop-most-bounds h l =
-      let line = line-bounds (hopAt net h .vl) (refs .hop-vl h l) in
-      let per = per-byte-bounds (portAt net (hopAt net h .port) .perbyte) (ranges .port (hopAt net h .port) (refs .hop-port h l) .per-byte) in
-      let some-bytes : 1 ≤ largestLine (vlAt net (hopAt net h .vl) .lmax) = omega (arith, least-line-is) in
-      (mul-le-mul {n₁ = 1} {m₁ = 1} some-bytes (per .0), mul-le-mul (line .1) (per .1))
+      let v = hopAt net h .vl in
+      let link = portLink net (hopAt net h .port) in
+      let per = per-byte-bounds (link .perbyte) (ranges .port (hopAt net h .port) (refs .hop-port h l) .per-byte) in
+      let there = refs .hop-vl h l in
+      (most-some link (per .0) (vlAt net v .lmax) (line-least v there), most-bound link (per .1) (vlAt net v .lmax) (ranges .vl v there .lmax-greatest))
 
   hop-spread-bound : (h : ℕ) → h < length (net .hops) → hopSpread net h ≤ 1250
   unfolding hopSpread

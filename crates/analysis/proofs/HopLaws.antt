@@ -7,11 +7,12 @@ use mathlib.Core.Path.{_≡_, ap}
 use native.Mathlib.Nat.{mul-le-mul}
 use native.Mathlib.Omega.{arith}
 use lib.ListN.{length, getD}
-use Rattle.frame.specs.Frame.{lineOverhead, leastFrame, leastLine, largestLine}
+use Rattle.frame.specs.Frame.{largestLine}
 use Rattle.network.specs.declared.Vl.{Vl}
 use Rattle.network.specs.declared.Port.{Port}
 use Rattle.network.specs.declared.Hop.{Hop}
 use Rattle.network.specs.Network.{Network, vlAt, portAt, hopAt, parentAt}
+use Rattle.network.proofs.LinkLaws.{least-ticks, most-ticks}
 use Rattle.network.specs.ReferenceFacts.{References}
 use Rattle.network.specs.Ranges.{Ranges}
 use Rattle.rows.specs.Links.{sendSpread, hopMost, hopLine, hopSpread}
@@ -27,11 +28,11 @@ frame-bound bytes ticks a b c d = (omega (arith, mul-le-mul a c), omega (arith, 
 module _ (net : Network) (h : ℕ) (hop : Hop) (is : hop ≡ hopAt net h) (port : Port) (on : port ≡ portAt net (hop .port)) where
   pub hop-most-is : (vl : Vl) → vl ≡ vlAt net (hop .vl) → (bytes : ℕ) → bytes ≡ largestLine (vl .lmax) → bytes * port .perbyte ≡ hopMost net h
   unfolding hopMost
-  hop-most-is vl of bytes e = rw (e, of, on, is)
+  hop-most-is vl of bytes e = rw (most-ticks, e, of, on, is)
 
   pub hop-least-is : 84 * port .perbyte ≡ hopLine net h
-  unfolding hopLine leastLine lineOverhead leastFrame
-  hop-least-is = rw (on, is)
+  unfolding hopLine
+  hop-least-is = rw (least-ticks, on, is)
 
   pub hop-spread-is : port .greatest - port .least ≡ hopSpread net h
   unfolding hopSpread

@@ -13,6 +13,7 @@ use Rattle.base.specs.Tabulate.{passing}
 use Rattle.base.specs.Tests.{isSome}
 use Rattle.frame.specs.Frame.{protocolOverhead, lineOf, lineBytes}
 use Rattle.frame.specs.Packets.{fullPacket, packets, cut, packetLines}
+use Rattle.network.specs.Link.{onLine, lineTicks}
 use Rattle.network.specs.declared.Parent.the-variants.{Root, After}
 use Rattle.network.specs.Network.{Network}
 use Rattle.network.specs.Views.{hopsOn, vlsOf, isParent, leaf}
@@ -141,11 +142,11 @@ turn-passed = looking-at (waiting 1 ∷ waiting 0 ∷ [])
 
 -- what the link sends after tick 0
 pub first-0 : state pair turn-kept 1 .end 0 .link ≡ some (record { job = frame-on 0; ends = 84 })
-unfolding state
+unfolding state lineTicks onLine
 first-0 = refl
 
 pub first-1 : state pair turn-passed 1 .end 0 .link ≡ some (record { job = frame-on 1; ends = 84 })
-unfolding state
+unfolding state lineTicks onLine
 first-1 = refl
 
 -- ---- one message of 10 bytes over one port, 84 ticks on each link: it is complete in tick 168, and not before
@@ -189,15 +190,15 @@ at-once = record {
 
 -- a packet is handed over in the tick in which it comes to its queue
 pub in-its-tick : hands small 0 (at-once .choice 0) (state small at-once 0) 0 .got ≡ some packet
-unfolding state passing packetLines cut packets up fullPacket protocolOverhead lineBytes lineOf
+unfolding state lineTicks onLine passing packetLines cut packets up fullPacket protocolOverhead lineBytes lineOf
 in-its-tick = refl
 
 pub there : complete small 168 (at-once .choice 168) (state small at-once 168) 0 ≡ frame 0 ∷ []
-unfolding state leaf isParent isSome leastFrom
+unfolding state lineTicks onLine leaf isParent isSome leastFrom
 there = refl
 
 pub not-there : complete small 167 (at-once .choice 167) (state small at-once 167) 0 ≡ []
-unfolding state leaf isParent isSome leastFrom
+unfolding state lineTicks onLine leaf isParent isSome leastFrom
 not-there = refl
 
 -- ---- one message of 10 bytes: send delay 2, end system to 86, switch 1, port 0 to 171, switch 2, port 1 to 257, receive 3; what lands is what the run says enters
@@ -234,25 +235,25 @@ abbrev pub r : Run
 r = over-two 1
 
 pub queue-lands : landed 2 (allSending two 2 (released r 2) (r .choice 2) (state two r 2)) ≡ message-of 0 0 ∷ []
-unfolding state
+unfolding state lineTicks onLine
 queue-lands = refl
 
 pub port-0-lands : reaches two 87 (r .choice 87) (state two r 87) 0 ≡ record { frame = frame 2; hop = 0 } ∷ []
-unfolding state hopsOn passing vlsOf packetLines cut packets up fullPacket protocolOverhead lineBytes lineOf
+unfolding state lineTicks onLine hopsOn passing vlsOf packetLines cut packets up fullPacket protocolOverhead lineBytes lineOf
 port-0-lands = refl
 
 -- hop 0 is a parent: what leaves it goes to hop 1, and to no destination
 pub port-1-lands : reaches two 173 (r .choice 173) (state two r 173) 1 ≡ record { frame = frame 2; hop = 1 } ∷ []
-unfolding state hopsOn passing
+unfolding state lineTicks onLine hopsOn passing
 port-1-lands = refl
 
 pub delivered-by-hop-1 : delivered two 257 (r .choice 257) (state two r 257) 1 ≡ frame 2 ∷ []
-unfolding state
+unfolding state lineTicks onLine
 delivered-by-hop-1 = refl
 
 -- a switch delay of 10 ticks, where 9 is the greatest, is not permitted
 pub not-10 : PermittedBelow two (over-two 10) 87 → ⊥
-unfolding state passing vlsOf packetLines cut packets up fullPacket protocolOverhead lineBytes lineOf
+unfolding state lineTicks onLine passing vlsOf packetLines cut packets up fullPacket protocolOverhead lineBytes lineOf
 not-10 p = omega (arith, p .flight-greatest 86 0 (frame 2) (omega arith) (omega arith) (List·Memᴰ·head refl))
 
 -- ---- one VL with two hops without parent: a frame that its end system has sent whole goes to both

@@ -11,10 +11,11 @@ use lib.ListN.{length}
 use Rattle.base.specs.Tests.{numberOr0}
 use Rattle.base.proofs.Every.{left, right}
 use Rattle.base.proofs.TestLaws.{number-is}
-use Rattle.frame.specs.Frame.{leastLine, largestLine}
 use Rattle.frame.proofs.FrameLaws.{largest-line-bounds}
-use Rattle.network.specs.Network.{Network, vlAt, streamAt, portAt, hopAt}
+use Rattle.network.specs.Network.{Network, vlAt, streamAt, hopAt}
 use Rattle.network.specs.Views.{hopsOn, streamsOn}
+use Rattle.network.specs.Link.{portLink}
+use Rattle.network.proofs.LinkLaws.{most-is}
 use Rattle.network.proofs.PortLaws.{on-port, member-on-port}
 use Rattle.rows.specs.Links.{hopMost, hopLine}
 use Rattle.rows.specs.Ports.{hopFlow, portFlows, portLength, portFigure, jitterOf, figureOf}
@@ -107,6 +108,5 @@ module _ (net : Network) (sound : Sound net) (busy : Busy net) where
       let v = hopAt net h .vl in
       let hv = sound .references .hop-vl h l in
       let a = cost-covered (hopFlow net (jitterOf net)) h (portFigure net (jitterOf net) p) (hopsOn net p) (member-on-port net p h l refl) (port-covers p 0) in
-      let c : leastLine * portAt net p .perbyte ≤ largestLine (vlAt net v .lmax) * portAt net p .perbyte =
-      mul-le-mul-right (portAt net p .perbyte) (largest-line-bounds (vlAt net v .lmax) (sound .lmax-least v hv) (sound .lmax-greatest v hv) .0) in
+      let c = most-is (portLink net p) (vlAt net v .lmax) (largest-line-bounds (vlAt net v .lmax) (sound .lmax-least v hv) (sound .lmax-greatest v hv) .0) in
       omega (arith, a, c, figure-of-port net h)

@@ -4,14 +4,15 @@ use Prim.Native.Nat.{ℕ, _+_, _*_, _≤_, _<_, max}
 use mathlib.Core.Bool.{cond, Bool}
 use mathlib.Core.List.{List, [], _∷_, List·Memᴰ, List·Memᴰ·head, List·Memᴰ·tail, List·Permᴰ}
 use mathlib.Core.Path.{_≡_, refl, sym, ap, _∙_, subst, subst₂}
-use native.Mathlib.Nat.{le-refl, le-of-eq, le-trans, mul-le-mul-right, mul-pos, div-eq-of-lt}
+use native.Mathlib.Nat.{le-refl, le-of-eq, le-trans, mul-le-mul-right, div-eq-of-lt}
 use native.Mathlib.Omega.{arith}
 use lib.Dec.{eqb, eqb→eq}
 use lib.ListN.{length}
 use Rattle.base.specs.Tabulate.{total}
 use Rattle.frame.specs.Frame.{leastLine, largestLine}
-use Rattle.frame.proofs.FrameLaws.{least-line-is}
-use Rattle.network.specs.Network.{Network, vlAt, systemAt}
+use Rattle.network.specs.Link.{systemLink}
+use Rattle.network.proofs.LinkLaws.{ticks-some, ticks-least, ticks-most}
+use Rattle.network.specs.Network.{Network, vlAt}
 use Rattle.rows.specs.Links.{sendMost, sendLine, sendSum}
 use Rattle.network.specs.Views.{vlsOf}
 use Rattle.machine.specs.Sum.{span, count, weigh}
@@ -82,7 +83,7 @@ module _ (net : Network) (sound : Sound net) (r : Run) (per : Endless net r) (wi
   fact t i f k = hand-fact net sound r per i win (hand-vl net sound r per i t f k) t f k
 
   stamped : (t i : ℕ) (f : Frame) → List·Memᴰ f (new t i) → (f .born ≡ t) × (0 < endCost net e f)
-  stamped t i f k = let w = fact t i f k in (w .0, mul-pos (omega (arith, w .1 .bytes-least, least-line-is)) (sound .system-speed e (sound .references .vl-system v hv)))
+  stamped t i f k = let w = fact t i f k in (w .0, ticks-some (systemLink net e) (sound .system-speed e (sound .references .vl-system v hv)) (f .packet .bytes) (w .1 .bytes-least))
 
   -- the order in which the link looks at its VLs: any order of what waits
   abbrev looked : ℕ → List (Lane Frame)
@@ -100,8 +101,7 @@ module _ (net : Network) (sound : Sound net) (r : Run) (per : Endless net r) (wi
 
   most-cost : (i : ℕ) → vlAt net i .system ≡ e → (f : Frame) → f .packet .bytes ≤ largestLine (vlAt net i .lmax) → endCost net e f ≤ sendMost net i
   unfolding sendMost
-  most-cost i q f h = subst (λ (z : ℕ). f .packet .bytes * systemAt net z .perbyte ≤ largestLine (vlAt net i .lmax) * systemAt net (vlAt net i .system) .perbyte) q
-      (mul-le-mul-right (systemAt net (vlAt net i .system) .perbyte) h)
+  most-cost i q f h = rw q (ticks-most (systemLink net e) (f .packet .bytes) (vlAt net i .lmax) h)
 
   -- one VL brings at most one frame in a span below its gap
   one-each : (i : ℕ) → i < length (net .vls) → vlAt net i .system ≡ e → (x d : ℕ) → d < window → span (λ t. weigh (endCost net e) (new t i)) x d ≤ c i
@@ -134,7 +134,7 @@ module _ (net : Network) (sound : Sound net) (r : Run) (per : Endless net r) (wi
 
   least-cost : (f : Frame) → leastLine ≤ f .packet .bytes → sendLine net v ≤ endCost net e f
   unfolding sendLine
-  least-cost f h = mul-le-mul-right (systemAt net e .perbyte) h
+  least-cost f h = ticks-least (systemLink net e) (f .packet .bytes) h
 
   weights : (w : Frame → ℕ) (t : ℕ) → upto (λ u. weigh w (ofVl v (mux-out (endCost net e) s₀ new looked u))) t ≤ upto (λ u. weigh w (new u v)) t
   unfolding vlsOf

@@ -1,19 +1,20 @@
 -- From the hand-over of a frame to its arrival at each port, and on to its destinations. By induction on the port number: what reaches a port comes from the end system or from a lower port.
 -- Assumes nothing.
-use Prim.Native.Nat.{ℕ, zero, suc, _+_, _*_, _-_, _/_, _≤_, _<_}
+use Prim.Native.Nat.{ℕ, zero, suc, _+_, _-_, _/_, _≤_, _<_}
 use mathlib.Core.Bool.{Bool, true, cond}
 use mathlib.Core.List.{List, _++_, [], _∷_, List·Memᴰ, List·Memᴰ·head, List·Memᴰ·tail, Permᴰ·symm, map}
 use mathlib.Core.Logic.{inl, inr}
 use mathlib.Core.Option.{Option, none, some}
 use mathlib.Core.Path.{_≡_, refl, sym, ap, _∙_, subst}
-use native.Mathlib.Nat.{le-refl, le-of-eq, le-trans, mul-le-mul-right, mul-pos, add-zero}
+use native.Mathlib.Nat.{le-refl, le-of-eq, le-trans, add-zero}
 use native.Mathlib.Omega.{arith}
 use lib.Dec.{eqb, T, eqb-refl}
 use lib.ListN.{length}
 use Rattle.frame.specs.Frame.{leastLine, largestLine}
-use Rattle.frame.proofs.FrameLaws.{least-line-is}
 use Rattle.network.specs.Network.{Network, vlAt, portAt, hopAt, parentAt}
 use Rattle.network.specs.Views.{hopsOn, leaf}
+use Rattle.network.specs.Link.{portLink, leastTicks}
+use Rattle.network.proofs.LinkLaws.{ticks-some, ticks-least, ticks-most}
 use Rattle.network.proofs.PortLaws.{on-port}
 use Rattle.rows.specs.Links.{hopMost, hopLine}
 use Rattle.rows.specs.Ports.{hopFlow, portFlows, portFigure, jitterOf, figureOf}
@@ -102,13 +103,13 @@ module _ (net : Network) (sound : Sound net) (r : Run) (per : Endless net r) (wi
         record { hop = hop′; here = here′; there = there′; listed = subst (λ (n : ℕ). List·Memᴰ n ns) e (w .1); bytes-least = f .bytes-least; bytes-most = f .bytes-most }
 
     abbrev lo : ℕ
-    lo = leastLine * portAt net p .perbyte
+    lo = leastTicks (portLink net p)
 
     costs : (t : ℕ) (c : Copy) → List·Memᴰ c (ins t) → (0 < portCost net p c) × (lo ≤ portCost net p c)
     costs t c m =
         let k = known t c m in (
-          mul-pos (omega (arith, k .bytes-least, least-line-is)) (subst (λ (n : ℕ). 0 < portAt net n .perbyte) (k .here) (sound .port-speed (port-of (c .hop)) (sound .references .hop-port (c .hop) (k .hop)))),
-          mul-le-mul-right (portAt net p .perbyte) (k .bytes-least),
+          ticks-some (portLink net p) (subst (λ (n : ℕ). 0 < portAt net n .perbyte) (k .here) (sound .port-speed (port-of (c .hop)) (sound .references .hop-port (c .hop) (k .hop)))) (c .frame .packet .bytes) (k .bytes-least),
+          ticks-least (portLink net p) (c .frame .packet .bytes) (k .bytes-least),
         )
 
     abbrev classes : List ℕ → List (Class Copy)
@@ -127,7 +128,7 @@ module _ (net : Network) (sound : Sound net) (r : Run) (per : Endless net r) (wi
     unfolding hopFlow hopMost
     covered t c m =
         let k = known t c m in
-        covered-in c (subst (λ (n : ℕ). portCost net p c ≤ largestLine (vlAt net (hopAt net (c .hop) .vl) .lmax) * portAt net n .perbyte) (sym (k .here)) (mul-le-mul-right (portAt net p .perbyte) (k .bytes-most))) ns (k .listed)
+        covered-in c (rw (k .here) (ticks-most (portLink net p) (c .frame .packet .bytes) (vlAt net (hopAt net (c .hop) .vl) .lmax) (k .bytes-most))) ns (k .listed)
 
     jitter : (h : ℕ) → h < length (net .hops) → 0 + (win .late h - win .soon h) ≡ jitterOf net h
     jitter h hh = omega (arith, win .spread h hh)
@@ -173,7 +174,7 @@ module _ (net : Network) (sound : Sound net) (r : Run) (per : Endless net r) (wi
     unfolding hopLine
     hop-delay h e = rw (figure-of-port net h) (delay-same (λ t. refl) (λ t. left-is net r h t)
         (delay-chosen (λ c. eqb (c .hop) h) (λ c. c .frame)
-        (subst (λ (q : ℕ). Delay (λ t. ch net r t .enter q) (fifo-out (portCost net q) (λ t. ch net r t .enter q)) (leastLine * portAt net q .perbyte) (portFigure net (jitterOf net) q)) (sym e) port-delay)))
+        (subst (λ (q : ℕ). Delay (λ t. ch net r t .enter q) (fifo-out (portCost net q) (λ t. ch net r t .enter q)) (leastTicks (portLink net q)) (portFigure net (jitterOf net) q)) (sym e) port-delay)))
 
   -- ---- all ports, from the lowest number on
   abbrev Arrive : ℕ → Type 0

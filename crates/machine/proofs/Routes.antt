@@ -1,6 +1,6 @@
 -- From 01's figures to the windows that the lemmas use: the jitter of a hop is the spread of its window, and the rows' worst and best are the windows' ends. By induction along the route.
 -- Assumes nothing.
-use Prim.Native.Nat.{ℕ, zero, suc, _+_, _*_, _-_, _≤_, _<_}
+use Prim.Native.Nat.{ℕ, zero, suc, _+_, _-_, _≤_, _<_}
 use mathlib.Core.Bool.{Bool, true, false, cond, not, _&&_}
 use mathlib.Core.List.{List, [], _∷_, _++_}
 use mathlib.Core.Logic.{⊎-elim, _≢_}
@@ -11,9 +11,10 @@ use native.Mathlib.Omega.{arith}
 use lib.Dec.{eqb, T, eqb→eq, eqb-refl}
 use lib.ListN.{length}
 use Rattle.base.specs.Tabulate.{passing, total}
-use Rattle.frame.specs.Frame.{leastLine, largestLine}
 use Rattle.frame.proofs.FrameLaws.{largest-line-bounds}
-use Rattle.network.specs.Network.{Network, systemAt, vlAt, streamAt, portAt, hopAt, parentAt}
+use Rattle.network.specs.Network.{Network, vlAt, streamAt, portAt, hopAt, parentAt}
+use Rattle.network.specs.Link.{systemLink}
+use Rattle.network.proofs.LinkLaws.{most-is}
 use Rattle.network.proofs.RouteLaws.{route-of-root, route-of-parent}
 use Rattle.rows.specs.Links.{sendMost, sendLine, sendSpread, sendSum, muxWait, hopLine, hopSpread}
 use Rattle.network.specs.Views.{vlsOf, route}
@@ -134,9 +135,7 @@ module _ (net : Network) (sound : Sound net) (busy : Busy net) where
   send-spread : (v : ℕ) → v < length (net .vls) → sendMost net v ≡ sendLine net v + sendSpread net v
   unfolding sendMost sendLine sendSpread
   send-spread v h =
-      let z : ℕ = largestLine (vlAt net v .lmax) - leastLine in
-      let i : largestLine (vlAt net v .lmax) ≡ leastLine + z = omega (arith, largest-line-bounds (vlAt net v .lmax) (sound .lmax-least v h) (sound .lmax-greatest v h) .0) in
-      omega (arith, ap (λ (y : ℕ). y * systemAt net (vlAt net v .system) .perbyte) i)
+      most-is (systemLink net (vlAt net v .system)) (vlAt net v .lmax) (largest-line-bounds (vlAt net v .lmax) (sound .lmax-least v h) (sound .lmax-greatest v h) .0)
 
   -- 01's jitter is the spread of the window
   spread : (n h : ℕ) → h < n → h < length (net .hops) → late h ≡ soon h + jitterOf net h

@@ -18,6 +18,7 @@ use Rattle.frame.specs.Packets.{fullPacket, packets}
 use Rattle.network.specs.declared.Parent.the-variants.{Root}
 use Rattle.network.specs.Network.{Network, systemAt, vlAt, streamAt, portAt, hopAt}
 use Rattle.network.specs.References.{namesSystem, hasHop, streamNamesVl, namesSubLink, hopNamesVl, namesPort, ofParent, parentEarlier, parentSameVl, parentLowerPort, twinOf, noEarlierTwin, routeLonger, notTooDeep, vlTests, streamTests, hopTests, refFault, badReference}
+use Rattle.network.specs.Link.{onLine, lineTicks, leastTicks, mostTicks, spreadTicks}
 use Rattle.network.specs.Views.{hopsOn, routeOf, vlsOf, streamsOn, isParent, leaf, leavesOf, route}
 use Rattle.network.specs.ReferenceFacts.{References}
 use Rattle.network.specs.References as References
@@ -55,7 +56,7 @@ unfolding badReference References.namingRows refFault vlTests streamTests hopTes
 references = references-exactly whole .1 (refl, refl, refl)
 
 sound : Sound whole
-unfolding sendSum vlsOf sendMost largestLine lineOverhead total passing
+unfolding sendSum vlsOf sendMost mostTicks lineTicks onLine largestLine lineOverhead total passing
 sound = record {
   references = references;
   send = leb→le 500 1000 tt;
@@ -87,7 +88,7 @@ unfolding queueFlows queueFlow streamsOn passing packets up fullPacket protocolO
 queue-flows = (refl, refl)
 
 port-flows : portFlows whole (jitterOf whole) 0 ≡ flows
-unfolding portFlows hopFlow hopsOn hopMost jitterOf jitterBelow rootJitter muxWait sendMost sendSpread hopSpread largestLine leastLine leastFrame lineOverhead total passing
+unfolding portFlows hopFlow hopsOn hopMost jitterOf jitterBelow rootJitter muxWait sendMost sendSpread hopSpread mostTicks spreadTicks lineTicks onLine largestLine leastLine leastFrame lineOverhead total passing
 port-flows = refl
 
 lengths : (busyLength flow-0 ≡ some 25000) × (busyLength flow-1 ≡ some 25000) × (busyLength flows ≡ some 2074)
@@ -143,11 +144,11 @@ port-figure =
     (e, e)
 
 worsts : (worst whole 0 0 ≡ 19398) × (worst whole 1 1 ≡ 6898)
-unfolding worst worstParts twoEach route routeOf muxWait sendMost largestLine lineOverhead total passing
+unfolding worst worstParts twoEach route routeOf muxWait sendMost mostTicks lineTicks onLine largestLine lineOverhead total passing
 worsts = (omega (arith, queues .0, port-figure .0), omega (arith, queues .1, port-figure .1))
 
 bests : (best whole 0 0 ≡ 2043) × (best whole 1 1 ≡ 2043)
-unfolding best bestParts twoEach route routeOf sendLine hopLine leastLine leastFrame lineOverhead packets up fullPacket protocolOverhead total
+unfolding best bestParts twoEach route routeOf sendLine hopLine leastTicks lineTicks onLine leastLine leastFrame lineOverhead packets up fullPacket protocolOverhead total
 bests = (refl, refl)
 
 -- "0 0 12500 19398 2043 17355" and "1 1 0 6898 2043 5855"

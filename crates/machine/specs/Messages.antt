@@ -1,12 +1,13 @@
 -- Releases, messages, packets and frames: what goes through the network.
 -- Assumes nothing.
-use Prim.Native.Nat.{ℕ, suc, _*_}
+use Prim.Native.Nat.{ℕ, suc}
 use mathlib.Core.Bool.{cond, _&&_}
 use mathlib.Core.List.{List, [], _∷_, _++_}
 use mathlib.Core.Option.{Option, none, some}
 use lib.Dec.{eqb}
 use Rattle.frame.specs.Packets.{packetLines}
-use Rattle.network.specs.Network.{Network, systemAt, vlAt, streamAt, portAt}
+use Rattle.network.specs.Link.{systemLink, portLink, lineTicks}
+use Rattle.network.specs.Network.{Network, vlAt, streamAt}
 use Rattle.machine.specs.Lists.{chosen}
 
 -- what a stream releases: a message of so many bytes. The tick is that of the list in which it stands.
@@ -76,7 +77,7 @@ module _ (net : Network) where
 
   -- "b × ticks per byte" on the link of an end system and of a port
   abbrev pub endCost : ℕ → Frame → ℕ
-  endCost e f = f .packet .bytes * systemAt net e .perbyte
+  endCost e f = lineTicks (systemLink net e) (f .packet .bytes)
 
   abbrev pub portCost : ℕ → Copy → ℕ
-  portCost p c = c .frame .packet .bytes * portAt net p .perbyte
+  portCost p c = lineTicks (portLink net p) (c .frame .packet .bytes)

@@ -3,3 +3,4 @@ pub mod ReferenceLaws
 pub mod PortLaws
 pub mod RouteLaws
 pub mod TestsAre
+pub mod LinkLaws

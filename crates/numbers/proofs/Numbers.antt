@@ -17,6 +17,7 @@ use Rattle.frame.specs.Packets.{fullPacket, packets}
 use Rattle.frame.specs.Offered.{greatestMessage, packetsOf}
 use Rattle.frame.specs.Tick.{perByte, sendBase, sendLimit, sendsInTime}
 use Rattle.network.specs.declared.Stream.{Stream}
+use Rattle.network.specs.Link.{onLine, lineTicks, mostTicks}
 use Rattle.network.specs.Views.{hopsOn, vlsOf, streamsOn}
 use Rattle.rows.specs.Links.{sendMost, sendSum, hopMost}
 use Rattle.rows.specs.Queues.{queueFlow, queueFlows, queueLength, queueFigure}
@@ -66,7 +67,7 @@ abbrev flow : ℕ → ℕ → ℕ → Flow
 flow t j c = record { period = t; jitter = j; cost = c }
 
 pub numbers-hold : Numbers-hold
-unfolding numbers ruled up lineOf protocolOverhead leastFrame greatestFrame fullPacket packets greatestMessage packetsOf offered most brought limit mostFlows inRange allInRange lastOf lastIn improved climb descend queueFlows queueFlow streamsOn passing portFlows hopFlow hopsOn hopMost largestLine lineOverhead perByte tabulate sendSays unless lateSystem leastFrom sendsLate sendsInTime sendBase sendLimit sendSum sendMost vlsOf total
+unfolding numbers ruled up lineOf protocolOverhead leastFrame greatestFrame fullPacket packets greatestMessage packetsOf offered most brought limit mostFlows inRange allInRange lastOf lastIn improved climb descend queueFlows queueFlow streamsOn passing portFlows hopFlow hopsOn hopMost mostTicks lineTicks onLine largestLine lineOverhead perByte tabulate sendSays unless lateSystem leastFrom sendsLate sendsInTime sendBase sendLimit sendSum sendMost vlsOf total
 numbers-hold = rw (
   -- 3
   queue-served (flow 50000 0 37500 ∷ []) refl (computed-served _ refl refl 9 37499 (record { figure = 37500; span = 0 }) refl refl) 1 (stream 3 50000 0 ∷ []) (omega arith) refl refl,

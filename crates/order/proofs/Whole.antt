@@ -24,6 +24,7 @@ use Rattle.layout.specs.Layout.{header, endSystem, vl, stream, port, hop, layou
 use Rattle.layout.specs.Fields.{meaning, convert}
 use Rattle.layout.specs.Rows.{rowRoom, rowAt, converted, listed, fieldTests, orderTests, rowFault}
 use Rattle.network.specs.Network.{Network, vlAt, streamAt}
+use Rattle.network.specs.Link.{onLine, lineTicks, mostTicks}
 use Rattle.network.specs.References.{namesSystem, hasHop, streamNamesVl, namesSubLink, hopNamesVl, namesPort, ofParent, parentEarlier, parentSameVl, parentLowerPort, twinOf, noEarlierTwin, routeLonger, notTooDeep, vlTests, streamTests, hopTests, refFault, badReference, oneSample, badSample}
 use Rattle.network.specs.References as References
 use Rattle.table.specs.Answers.{accepted, firstGiven}
@@ -89,7 +90,7 @@ unfolding answer6
 none-6 = rw (network-is, samples-good, answer6)
 
 in-time : lateSystem whole ≡ none
-unfolding lateSystem sendsLate sendsInTime sendBase sendLimit sendSum vlsOf sendMost largestLine lineOverhead total passing leastFrom
+unfolding lateSystem sendsLate sendsInTime sendBase sendLimit sendSum vlsOf sendMost mostTicks lineTicks onLine largestLine lineOverhead total passing leastFrom
 in-time = refl
 
 none-7 : answer7 (networkIn table) ≡ none

@@ -1,27 +1,27 @@
--- A frame on a link: the most and the least ticks that it takes on an end system's link and on a port's. Everything that
--- belongs to a link stands here. Assumes nothing.
-use Prim.Native.Nat.{ℕ, _-_, _*_}
+-- The frames of a network on its links: the most and the least ticks that one takes on an end system's link and on a port's, by what
+-- a link is (network/specs/Link). Assumes nothing.
+use Prim.Native.Nat.{ℕ, _-_}
 use mathlib.Core.Bool.{_&&_, not}
 use mathlib.Core.List.{map}
 use lib.Dec.{eqb}
 use lib.ListN.{length}
 use Rattle.base.specs.Tabulate.{passing, total}
-use Rattle.frame.specs.Frame.{leastLine, largestLine}
-use Rattle.network.specs.Network.{Network, systemAt, vlAt, portAt, hopAt}
+use Rattle.network.specs.Network.{Network, vlAt, portAt, hopAt}
+use Rattle.network.specs.Link.{systemLink, portLink, leastTicks, mostTicks, spreadTicks}
 use Rattle.network.specs.Views.{vlsOf}
 
 -- ---- an end system's link
 -- "(20 + Lmax) × ticks per byte" of VL v's end system
 unfoldable pub sendMost : Network → ℕ → ℕ
-sendMost net v = largestLine (vlAt net v .lmax) * systemAt net (vlAt net v .system) .perbyte
+sendMost net v = mostTicks (systemLink net (vlAt net v .system)) (vlAt net v .lmax)
 
 -- "84 bytes" on the link of VL v's end system
 unfoldable pub sendLine : Network → ℕ → ℕ
-sendLine net v = leastLine * systemAt net (vlAt net v .system) .perbyte
+sendLine net v = leastTicks (systemLink net (vlAt net v .system))
 
 -- "(20 + Lmax − 84) × ticks per byte of the end system"
 unfoldable pub sendSpread : Network → ℕ → ℕ
-sendSpread net v = (largestLine (vlAt net v .lmax) - leastLine) * systemAt net (vlAt net v .system) .perbyte
+sendSpread net v = spreadTicks (systemLink net (vlAt net v .system)) (vlAt net v .lmax)
 
 -- 7: "the sum of (20 + Lmax) × ticks per byte over an end system's VLs"
 unfoldable pub sendSum : Network → ℕ → ℕ
@@ -35,11 +35,11 @@ muxWait net v =
 -- ---- a port's link, for the frames of a hop on it
 -- "C = (20 + Lmax) × ticks per byte of the port"
 unfoldable pub hopMost : Network → ℕ → ℕ
-hopMost net h = largestLine (vlAt net (hopAt net h .vl) .lmax) * portAt net (hopAt net h .port) .perbyte
+hopMost net h = mostTicks (portLink net (hopAt net h .port)) (vlAt net (hopAt net h .vl) .lmax)
 
 -- "84 × its ticks per byte"
 unfoldable pub hopLine : Network → ℕ → ℕ
-hopLine net h = leastLine * portAt net (hopAt net h .port) .perbyte
+hopLine net h = leastTicks (portLink net (hopAt net h .port))
 
 -- "this port's switch delay greatest − least"
 unfoldable pub hopSpread : Network → ℕ → ℕ

@@ -2,8 +2,8 @@
 -- Assumes nothing.
 use Prim.Native.Nat.{_≤_}
 use native.Mathlib.Omega.{arith}
+use Rattle.network.proofs.LinkLaws.{least-ticks}
 use Rattle.rows.specs.Links.{sendLine}
-use Rattle.frame.proofs.FrameLaws.{least-line-is}
 use Rattle.analysis.proofs.RangeLaws.{system-range, vl-system}
 use borrow.Author.Needs.{needs}
 use Rattle.analysis.proofs.links.send_least.Statement.{statement}
@@ -20,7 +20,7 @@ mul-result c = omega (arith, speed (c .before))
 
 returns : tie.Need-returns
 unfolding sendLine
-returns c = (rw (c .before .system-at .ensures, c .before .before .vl-at .ensures, least-line-is), omega (arith, speed (c .before)))
+returns c = (rw (least-ticks, c .before .system-at .ensures, c .before .before .vl-at .ensures), omega (arith, speed (c .before)))
 
 pub send-least-spec : {M : Type 1} → statement M
 send-least-spec = tie.close (tie.spec (λ c κs. search needs) (λ c κs. search needs) mul-result returns)

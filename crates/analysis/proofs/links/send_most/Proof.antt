@@ -3,6 +3,7 @@
 use Prim.Native.Nat.{_*_, _≤_}
 use native.Mathlib.Nat.{mul-le-mul}
 use native.Mathlib.Omega.{arith}
+use Rattle.network.proofs.LinkLaws.{most-ticks}
 use Rattle.rows.specs.Links.{sendMost}
 use Rattle.analysis.proofs.RangeLaws.{system-range, vl-range, vl-system}
 use borrow.Author.Needs.{needs}
@@ -29,7 +30,7 @@ mul-result c = omega (arith, at-most c)
 
 returns : tie.Need-returns
 unfolding sendMost
-returns c = (rw (c .before .line .ensures .0, c .before .before .system-at .ensures, c .before .before .before .vl-at .ensures), at-most c)
+returns c = (rw (most-ticks, c .before .line .ensures .0, c .before .before .system-at .ensures, c .before .before .before .vl-at .ensures), at-most c)
 
 pub send-most-spec : {M : Type 1} → statement M
 send-most-spec = tie.close (tie.spec (λ c κs. search needs) (λ c κs. search needs) line-requires mul-result returns)

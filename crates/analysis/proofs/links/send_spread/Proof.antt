@@ -3,7 +3,7 @@
 use Prim.Native.Nat.{_-_, _*_, _≤_}
 use native.Mathlib.Nat.{mul-le-mul}
 use native.Mathlib.Omega.{arith}
-use Rattle.frame.proofs.FrameLaws.{least-line-is}
+use Rattle.network.proofs.LinkLaws.{spread-ticks}
 use Rattle.rows.specs.Links.{sendSpread}
 use Rattle.analysis.proofs.RangeLaws.{system-range, vl-range, vl-system}
 use borrow.Author.Needs.{needs}
@@ -33,7 +33,7 @@ mul-result c = omega (arith, at-most c)
 returns : tie.Need-returns
 unfolding sendSpread
 returns c =
-    (rw (c .before .line .ensures .0, c .before .before .system-at .ensures, c .before .before .before .vl-at .ensures, least-line-is), at-most c)
+    (rw (spread-ticks, c .before .line .ensures .0, c .before .before .system-at .ensures, c .before .before .before .vl-at .ensures), at-most c)
 
 pub send-spread-spec : {M : Type 1} → statement M
 send-spread-spec = tie.close (tie.spec (λ c κs. search needs) (λ c κs. search needs) line-requires (λ c. search needs) mul-result returns)
