@@ -1,33 +1,12 @@
 // The program: an independent reading of 01 with its generator of tables and its simulator.
 // Subcommands: rows, items, wrap, answers, table, tables, simulate, check.
-mod batch;
-mod bits;
-mod check;
-mod damage;
-mod edges;
-mod frame;
-mod generate;
-mod heavy;
-mod items;
-mod machine;
-mod mixture;
-mod network;
-mod numbers;
-mod overloads;
-mod plans;
-mod random;
-mod raw;
-mod refs;
-mod refusals;
-mod rows;
-mod simulate;
-mod sizes;
-mod station;
-mod table;
-mod tickwise;
-mod tight;
-mod writes;
+mod make;
+mod paper;
+mod run;
 
+use crate::make::{mixture, random};
+use crate::paper::rows;
+use crate::run::{batch, check, items, simulate};
 use std::io::{Read, Write};
 use std::process::ExitCode;
 
@@ -37,7 +16,7 @@ const USAGE: &str = "usage: held rows | items SEED COUNT | wrap FILE.. | answers
 fn main() -> ExitCode {
     let words: Vec<String> = std::env::args().skip(1).collect();
     let words: Vec<&str> = words.iter().map(String::as_str).collect();
-    match run(&words) {
+    match command(&words) {
         Ok(true) => ExitCode::SUCCESS,
         Ok(false) => ExitCode::from(1),
         Err(text) => {
@@ -63,7 +42,7 @@ fn output(bytes: &[u8]) -> Result<bool, String> {
     Ok(true)
 }
 
-fn run(words: &[&str]) -> Result<bool, String> {
+fn command(words: &[&str]) -> Result<bool, String> {
     match words {
         // "reads the table from standard input (at most 12,111 bytes of it)"
         ["rows"] => output(rows::printed(&input(12_111)?).as_bytes()),

@@ -1,8 +1,8 @@
 // Every named cause of a bad reference (5) and long samples (6), in rows that are not the first,
 // and beside them the nearest good neighbours.
-use crate::edges::{case, Case};
-use crate::random::Rng;
-use crate::raw::Raw;
+use crate::make::edges::{Case, case};
+use crate::make::random::Rng;
+use crate::make::raw::Raw;
 
 pub fn cases() -> Vec<Case> {
     let mut list = Vec::new();
@@ -141,12 +141,15 @@ fn ladder(rng: &mut Rng, raw: &mut Raw) -> (u64, [u64; 3], [u64; 3]) {
     (vl, ports, [low, middle, high])
 }
 
+/// The parent field that a change names, from the table and the rows of a ladder.
+type Named = fn(&Raw, [u64; 3]) -> u64;
+
 fn parents(list: &mut Vec<Case>) {
     // "its parent is not an earlier row of the same VL on a lower-numbered port"
     list.push(case("ladder", 0, |rng, raw| {
         ladder(rng, raw);
     }));
-    let changes: [(&str, usize, fn(&Raw, [u64; 3]) -> u64); 7] = [
+    let changes: [(&str, usize, Named); 7] = [
         ("parent is itself", 1, |_, rows| rows[1] + 1),
         ("parent is a later row", 1, |_, rows| rows[2] + 1),
         ("first hop's parent is a later row", 0, |_, rows| rows[1] + 1),

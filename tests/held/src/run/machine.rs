@@ -1,7 +1,7 @@
 // The tick machine of demand 3: one run of a network, from event to event instead of tick by tick.
 // Each part quotes the sentence of 01 it follows; what 01 leaves free is asked of `Choices`.
-use crate::frame;
-use crate::network::Network;
+use crate::paper::frame;
+use crate::paper::network::Network;
 use std::cmp::Reverse;
 use std::collections::{BinaryHeap, VecDeque};
 

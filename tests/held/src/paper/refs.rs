@@ -1,8 +1,8 @@
 // Answers 5 and 6: bad references, and sampling messages of more than one packet.
 // 01: "Bad references (5)" and row 6 of "Answers by number".
-use crate::frame;
-use crate::network::Network;
-use crate::table::{answer, Answer};
+use crate::paper::frame;
+use crate::paper::network::Network;
+use crate::paper::table::{Answer, answer};
 
 /// The first bad reference of the lowest section, if there is one.
 pub fn bad_reference(net: &Network) -> Option<Answer> {

@@ -1,10 +1,10 @@
 // Release plans for the tick machine: random, bursts, single small messages, and the run that
 // makes a last packet wait as long as the queue figure says.
-use crate::machine::Message;
-use crate::network::{Network, Stream};
-use crate::random::Rng;
-use crate::rows::queue_flows;
-use crate::station::{busy_length, most_arrivals, span_of_figure, LIMIT};
+use crate::make::random::Rng;
+use crate::paper::network::{Network, Stream};
+use crate::paper::rows::queue_flows;
+use crate::paper::station::{LIMIT, busy_length, most_arrivals, span_of_figure};
+use crate::run::machine::Message;
 
 /// 01: "A stream releases messages of least M to M bytes, in any span no more than a flow of its
 /// own T and J brings", and "after a permitted send delay". Is the plan one of these?
@@ -118,8 +118,7 @@ pub fn reach(
     let flows = queue_flows(net, vl, 0);
     let length = busy_length(&flows, LIMIT)?;
     let span = span_of_figure(&flows, length);
-    let members: Vec<usize> =
-        (0..net.streams.len()).filter(|&s| net.streams[s].vl == vl).collect();
+    let members: Vec<usize> = (0..net.streams.len()).filter(|&s| net.streams[s].vl == vl).collect();
     let total: u64 = flows.iter().map(|f| most_arrivals(f, span) * f.cost / net.vls[vl].bag).sum();
     if total > 5_000 {
         return None;

@@ -1,19 +1,21 @@
 // Self-checks: the brute-force station against the quick one, 01's numbers to hold against, the
 // whole case, round trips, and every made case against the answer it was made for.
-use crate::frame;
-use crate::heavy;
-use crate::items::{self, Item};
-use crate::machine::{self, Choices};
-use crate::mixture;
-use crate::network::{network, Network};
-use crate::plans;
-use crate::random::Rng;
-use crate::rows;
-use crate::simulate;
-use crate::sizes;
-use crate::station::{self, Flow, LIMIT};
-use crate::table::{self, Answer, Lists, MOST};
-use crate::tickwise;
+pub mod numbers;
+
+use crate::make::heavy;
+use crate::make::mixture;
+use crate::make::random::Rng;
+use crate::make::sizes;
+use crate::paper::frame;
+use crate::paper::network::{Network, network};
+use crate::paper::rows;
+use crate::paper::station::{self, Flow, LIMIT};
+use crate::paper::table::{self, Answer, Lists, MOST};
+use crate::run::items::{self, Item};
+use crate::run::machine::{self, Choices};
+use crate::run::plans;
+use crate::run::simulate;
+use crate::run::tickwise;
 
 /// What was compared, and what differed.
 #[derive(Default)]
@@ -41,7 +43,7 @@ impl Report {
 pub fn check() -> Report {
     let mut report = Report::default();
     stations(&mut report);
-    crate::numbers::numbers(&mut report);
+    numbers::numbers(&mut report);
     round_trips(&mut report);
     made_cases(&mut report);
     streams(&mut report);
@@ -181,7 +183,7 @@ fn made_cases(report: &mut Report) {
 
 /// The item stream read back gives the same answers, and no lent place is left as it was.
 fn streams(report: &mut Report) {
-    let list = crate::batch::items(5, 300);
+    let list = crate::run::batch::items(5, 300);
     let mut stream = Vec::new();
     for item in &list {
         items::encode(item, &mut stream);

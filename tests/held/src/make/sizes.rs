@@ -1,8 +1,8 @@
 // Tables at the greatest counts and one past them, and tables of the greatest legal size.
 // 01: "At most 64 end systems, 256 VLs, 512 streams, 128 ports, 1,024 hops, 1,024 result rows".
-use crate::generate::add_trees;
-use crate::random::Rng;
-use crate::raw::Raw;
+use crate::make::generate::add_trees;
+use crate::make::random::Rng;
+use crate::make::raw::Raw;
 
 /// Whole tables by number, with the answer number each is made for.
 pub const SIZES: u64 = 19;

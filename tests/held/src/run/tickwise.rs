@@ -1,8 +1,8 @@
 // The tick machine once more, tick by tick and without cleverness, for the self-check alone:
 // the run from event to event must show the same waits and completions.
-use crate::frame;
-use crate::machine::{Choices, Message, Outcome};
-use crate::network::Network;
+use crate::paper::frame;
+use crate::paper::network::Network;
+use crate::run::machine::{Choices, Message, Outcome};
 use std::collections::VecDeque;
 
 /// A packet on its way: its message and its line bytes.
@@ -57,18 +57,17 @@ pub fn run(net: &Network, messages: &[Message], choices: &mut dyn Choices, end: 
     let mut received: Vec<(usize, usize, u64)> = Vec::new();
     for tick in 0..=end {
         // Ends of sending.
-        for s in 0..net.systems.len() {
-            if let Some((whole, vl, packet)) = system_link[s].filter(|link| link.0 == tick) {
-                assert_eq!(whole, tick);
-                system_link[s] = None;
+        for link in &mut system_link {
+            if let Some((_, vl, packet)) = link.filter(|sent| sent.0 == tick) {
+                *link = None;
                 lift(net, choices, &mut flights, tick, packet, |h| {
                     net.hops[h].vl == vl && net.hops[h].parent.is_none()
                 });
             }
         }
-        for p in 0..net.ports.len() {
-            if let Some((_, hop, packet)) = port_link[p].filter(|link| link.0 == tick) {
-                port_link[p] = None;
+        for link in &mut port_link {
+            if let Some((_, hop, packet)) = link.filter(|sent| sent.0 == tick) {
+                *link = None;
                 let is_child = |h: usize| net.hops[h].parent == Some(hop);
                 if !lift(net, choices, &mut flights, tick, packet, is_child) {
                     let delay = choices.receive_delay(packet.message, hop);

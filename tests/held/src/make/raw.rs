@@ -1,9 +1,9 @@
 // A table as its bare fields, good or bad: what the generator builds, bends and then packs.
 // Fields as 01's table lists them, paddings among them; only the widths bind.
-use crate::bits::Bits;
-use crate::frame;
-use crate::random::Rng;
-use crate::table::{numbers_of, Lists, WIDTHS};
+use crate::make::random::Rng;
+use crate::paper::bits::Bits;
+use crate::paper::frame;
+use crate::paper::table::{Lists, WIDTHS, numbers_of};
 
 #[derive(Clone)]
 pub struct Raw {
@@ -37,9 +37,9 @@ impl Raw {
     pub fn bytes(&self) -> Vec<u8> {
         let mut bits = Bits::default();
         bits.push_all(&self.header, WIDTHS[0]);
-        for section in 1..6 {
-            for record in &self.sections[section] {
-                bits.push_all(record, WIDTHS[section]);
+        for (records, widths) in self.sections.iter().zip(WIDTHS) {
+            for record in records {
+                bits.push_all(record, widths);
             }
         }
         bits.bytes()
@@ -49,8 +49,8 @@ impl Raw {
     pub fn lists(&self) -> Lists {
         let mut lists: Lists = Default::default();
         lists[0] = self.header[6..10].to_vec();
-        for section in 1..6 {
-            for record in &self.sections[section] {
+        for (section, records) in self.sections.iter().enumerate() {
+            for record in records {
                 lists[section].extend(numbers_of(section, record).0);
             }
         }

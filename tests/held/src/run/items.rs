@@ -1,7 +1,7 @@
 // The item stream: its binary form, read and written, and the text answers to it.
 // Items T (analyse), U (unpack) and W (write); all numbers of the stream are big-endian.
-use crate::rows;
-use crate::table::{self, Answer, Lists};
+use crate::paper::rows;
+use crate::paper::table::{self, Answer, Lists};
 use std::fmt::Write;
 
 pub enum Item {

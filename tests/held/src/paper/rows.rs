@@ -1,10 +1,10 @@
 // The analysis: answers 7 to 10, queue figures, mux waits, port figures and the result rows.
 // 01: "Answers by number", "One station" and "Result rows"; signed 128 bits for every sum.
-use crate::frame;
-use crate::network::{network, Network};
-use crate::refs;
-use crate::station::{busy_length, figure, Flow, LIMIT};
-use crate::table::{answer, read, Answer, ACCEPTED};
+use crate::paper::frame;
+use crate::paper::network::{Network, network};
+use crate::paper::refs;
+use crate::paper::station::{Flow, LIMIT, busy_length, figure};
+use crate::paper::table::{ACCEPTED, Answer, answer, read};
 
 /// 01: "At most ... 1,024 result rows".
 pub const MOST_ROWS: usize = 1_024;

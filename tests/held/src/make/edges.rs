@@ -1,13 +1,16 @@
 // Each field at its limits and one past them, in rows that are not the first.
 // 01: "The packed table", its ranges and its paddings.
-use crate::random::Rng;
-use crate::raw::Raw;
+use crate::make::random::Rng;
+use crate::make::raw::Raw;
 
-/// A change of a good network, with the answer number it is made for.
+/// A change of a good network.
+pub type Change = dyn Fn(&mut Rng, &mut Raw);
+
+/// A change, with the answer number it is made for.
 pub struct Case {
     pub name: String,
     pub number: u64,
-    pub apply: Box<dyn Fn(&mut Rng, &mut Raw)>,
+    pub apply: Box<Change>,
 }
 
 pub fn case(name: &str, number: u64, apply: impl Fn(&mut Rng, &mut Raw) + 'static) -> Case {
@@ -104,9 +107,22 @@ fn systems_and_vls(list: &mut Vec<Case>) {
 fn streams(list: &mut Vec<Case>) {
     // "M 1 to 8,192; least M 1 to M"
     for (most, least, number) in [
-        (0, 0, 4), (0, 1, 4), (1, 0, 4), (1, 1, 0), (1, 2, 4), (8_192, 1, 0), (8_192, 8_192, 0),
-        (8_192, 8_193, 4), (8_193, 1, 4), (8_193, 8_193, 4), (16_383, 1, 4), (16_383, 16_383, 4),
-        (500, 0, 4), (500, 500, 0), (500, 501, 4), (500, 16_383, 4),
+        (0, 0, 4),
+        (0, 1, 4),
+        (1, 0, 4),
+        (1, 1, 0),
+        (1, 2, 4),
+        (8_192, 1, 0),
+        (8_192, 8_192, 0),
+        (8_192, 8_193, 4),
+        (8_193, 1, 4),
+        (8_193, 8_193, 4),
+        (16_383, 1, 4),
+        (16_383, 16_383, 4),
+        (500, 0, 4),
+        (500, 500, 0),
+        (500, 501, 4),
+        (500, 16_383, 4),
     ] {
         for lmax in [64, 1_518] {
             list.push(case("M and least M", number, move |rng, raw| {
@@ -120,8 +136,15 @@ fn streams(list: &mut Vec<Case>) {
     // "period 12,500 to 125,000,000; jitter 0 to 125,000,000"
     let widest = (1 << 27) - 1;
     for (period, number) in [
-        (0, 4), (1, 4), (12_499, 4), (12_500, 0), (12_501, 0), (124_999_999, 0), (125_000_000, 0),
-        (125_000_001, 4), (widest, 4),
+        (0, 4),
+        (1, 4),
+        (12_499, 4),
+        (12_500, 0),
+        (12_501, 0),
+        (124_999_999, 0),
+        (125_000_000, 0),
+        (125_000_001, 4),
+        (widest, 4),
     ] {
         list.push(case("period", number, move |rng, raw| {
             raw.delays((300, 300), (0, 1_875));
@@ -159,8 +182,16 @@ fn streams(list: &mut Vec<Case>) {
 fn ports(list: &mut Vec<Case>) {
     // "switch delay at most 1,250; each least at most its greatest"
     for (least, greatest, number) in [
-        (0, 0, 0), (1_250, 1_250, 0), (0, 1_250, 0), (1_249, 1_250, 0), (0, 1_251, 4),
-        (1_251, 1_251, 4), (1_250, 1_249, 4), (1, 0, 4), (0, 4_095, 4), (4_095, 4_095, 4),
+        (0, 0, 0),
+        (1_250, 1_250, 0),
+        (0, 1_250, 0),
+        (1_249, 1_250, 0),
+        (0, 1_251, 4),
+        (1_251, 1_251, 4),
+        (1_250, 1_249, 4),
+        (1, 0, 4),
+        (0, 4_095, 4),
+        (4_095, 4_095, 4),
     ] {
         list.push(case("switch delay", number, move |rng, raw| {
             raw.attach_whole(rng);

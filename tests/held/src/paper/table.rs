@@ -1,7 +1,7 @@
 // The packed table: its layout, the reader with answers 1 to 4, the unpacker and the writer.
 // Answers 5 and 6 stand in refs.rs, 7 to 10 in rows.rs.
-use crate::bits::{Bits, Cursor};
-use crate::frame;
+use crate::paper::bits::{Bits, Cursor};
+use crate::paper::frame;
 
 /// 01: "An answer carries number, section and row."
 #[derive(Clone, Copy, Debug, PartialEq, Eq)]

@@ -1,10 +1,11 @@
 // 01's "Numbers to hold against", 1 to 10, and its whole case, number for number.
 // Each comparison stands under the words it comes from.
-use crate::check::Report;
-use crate::frame;
-use crate::rows;
-use crate::station::{self, Flow, LIMIT};
-use crate::table::{self, answer, Lists};
+use crate::make::whole_case;
+use crate::paper::frame;
+use crate::paper::rows;
+use crate::paper::station::{self, Flow, LIMIT};
+use crate::paper::table::{self, Lists, answer};
+use crate::run::check::Report;
 
 fn flow(period: u64, jitter: u64, cost: u64) -> Flow {
     Flow { period, jitter, cost }
@@ -14,11 +15,6 @@ fn flow(period: u64, jitter: u64, cost: u64) -> Flow {
 fn queue(flows: &[Flow], bag: u64) -> Option<(u64, u64)> {
     let length = station::busy_length(flows, LIMIT)?;
     Some((length, station::figure(flows, length) - bag))
-}
-
-/// Lists of one network: delays, end systems, VLs, streams, ports, hops.
-fn lists(six: [&[u64]; 6]) -> Lists {
-    six.map(|list| list.to_vec())
 }
 
 fn answer_number(lists: &Lists) -> (u64, u64, u64) {
@@ -52,7 +48,14 @@ pub fn numbers(report: &mut Report) {
     report.same("6.", five(1), None);
     let six = |jitter: u64| {
         let streams = [0, 0, 0, 17, 17, 25_000, jitter, 0, 0, 0, 34, 17, 50_000, 0];
-        lists([&[9, 9, 0, 0], &[100], &[0, 1, 1, 64], &streams, &[100, 0, 0], &[0, 0, 0]])
+        whole_case::set_down([
+            &[9, 9, 0, 0],
+            &[100],
+            &[0, 1, 1, 64],
+            &streams,
+            &[100, 0, 0],
+            &[0, 0, 0],
+        ])
     };
     report.same("5. as a table", answer_number(&six(0)), (0, 0, 0));
     report.same("6. as a table", answer_number(&six(1)), (9, 2, 0));
@@ -66,32 +69,21 @@ pub fn numbers(report: &mut Report) {
     let nine = |last: u64| {
         let vls = [0, 128, 1, 1_518, 0, 128, 1, 1_518, 0, 128, 1, 1_518, 0, 128, 1, last];
         let hops = [0, 0, 0, 1, 0, 0, 2, 0, 0, 3, 0, 0];
-        lists([&[0, 0, 0, 0], &[100], &vls, &[], &[100, 0, 0], &hops])
+        whole_case::set_down([&[0, 0, 0, 0], &[100], &vls, &[], &[100, 0, 0], &hops])
     };
     report.same("9. 5,750", answer_number(&nine(1_116)), (0, 0, 0));
     report.same("9. 5,751", answer_number(&nine(1_117)), (7, 1, 0));
     // 10. "13 bytes: 1. VL record of end system 0, BAG 2 ms, one sub-link, Lmax 516: 00 22 04"
     report.same("10. 13 bytes", table::read(&[1; 13]).err(), Some(answer(1, 0, 0)));
-    let ten = lists([&[0, 0, 0, 0], &[], &[0, 2, 1, 516], &[], &[], &[]]);
+    let ten = whole_case::set_down([&[0, 0, 0, 0], &[], &[0, 2, 1, 516], &[], &[], &[]]);
     report.same("10. VL record", table::written(&ten).unwrap()[14..].to_vec(), vec![0, 0x22, 4]);
     report.part("01's numbers to hold against, 1 to 10");
     whole_case(report);
 }
 
-pub fn whole_case_lists() -> Lists {
-    lists([
-        &[500, 1_000, 500, 500],
-        &[100],
-        &[0, 1, 1, 1_518, 0, 2, 1, 516],
-        &[0, 0, 0, 2_000, 1_000, 250_000, 0, 1, 0, 1, 469, 10, 500_000, 1_000],
-        &[100, 875, 1_250],
-        &[0, 0, 0, 1, 0, 0],
-    ])
-}
-
 /// "The header is 01 01 00 20 02 01 00 21 F4 3E 81 F4 1F 40, the table 59 bytes."
 fn whole_case(report: &mut Report) {
-    let bytes = table::written(&whole_case_lists()).expect("01's own table");
+    let bytes = table::written(&whole_case::lists()).expect("01's own table");
     report.same("bytes of the whole case", bytes.len(), 59);
     let header = [1, 1, 0, 0x20, 2, 1, 0, 0x21, 0xF4, 0x3E, 0x81, 0xF4, 0x1F, 0x40];
     report.same("header", &bytes[..14], &header[..]);

@@ -1,9 +1,9 @@
 // Answers 7 to 10 in rows that are not the first, and beside them the nearest good neighbours.
 // 01: "Answers by number" from 7 on, and "One station, used for queues and ports".
-use crate::edges::{case, Case};
-use crate::frame::GAPS;
-use crate::random::Rng;
-use crate::raw::Raw;
+use crate::make::edges::{Case, case};
+use crate::make::random::Rng;
+use crate::make::raw::Raw;
+use crate::paper::frame::GAPS;
 
 pub fn cases() -> Vec<Case> {
     let mut list = Vec::new();
@@ -153,10 +153,13 @@ fn queues(list: &mut Vec<Case>) {
 
 fn exact_queues(list: &mut Vec<Case>) {
     // "Refusing at a load of exactly one: case 5 is accepted." Packets and periods in turns.
-    let sets: [&[(u64, u64)]; 5] =
-        [&[(1, 2), (2, 4)], &[(1, 1)], &[(1, 3), (2, 6), (3, 9)], &[(1, 2), (1, 3), (1, 6)], &[
-            (3, 12), (5, 20), (1, 4), (1, 8), (2, 16),
-        ]];
+    let sets: [&[(u64, u64)]; 5] = [
+        &[(1, 2), (2, 4)],
+        &[(1, 1)],
+        &[(1, 3), (2, 6), (3, 9)],
+        &[(1, 2), (1, 3), (1, 6)],
+        &[(3, 12), (5, 20), (1, 4), (1, 8), (2, 16)],
+    ];
     for set in sets {
         for sub_links in [1, 3] {
             for (jitter, spread, less, number) in

@@ -1,16 +1,16 @@
 // Tables of every kind from one source: shapes, limits, refusals, heavy ones, sizes, damage.
 // Used for single tables, for table files and, piece by piece, for the item stream.
-use crate::damage;
-use crate::edges::{self, Case};
-use crate::generate::{self, Wish, LOOSE};
-use crate::heavy;
-use crate::overloads;
-use crate::random::Rng;
-use crate::raw::Raw;
-use crate::refusals;
-use crate::rows;
-use crate::sizes;
-use crate::tight;
+use crate::make::damage;
+use crate::make::edges::{self, Case};
+use crate::make::generate::{self, LOOSE, Wish};
+use crate::make::heavy;
+use crate::make::overloads;
+use crate::make::random::Rng;
+use crate::make::raw::Raw;
+use crate::make::refusals;
+use crate::make::sizes;
+use crate::make::tight;
+use crate::paper::rows;
 
 /// Numbers lent to a result that is long enough for every table.
 pub const FULL_ROOM: usize = 6 * rows::MOST_ROWS;
@@ -56,11 +56,7 @@ pub fn base(rng: &mut Rng) -> Raw {
 pub fn shaped(rng: &mut Rng) -> Raw {
     let number = rng.below(generate::SHAPES);
     let wish = generate::shape(rng, number);
-    if rng.chance(16) {
-        generate::network(rng, &wish)
-    } else {
-        accepted(rng, &wish)
-    }
+    if rng.chance(16) { generate::network(rng, &wish) } else { accepted(rng, &wish) }
 }
 
 /// A base with one case.
@@ -128,11 +124,7 @@ pub fn table(rng: &mut Rng, cases: &[Case]) -> Vec<u8> {
         _ => {
             let number = rng.below(sizes::SIZES);
             let bytes = sizes::table(rng, number).1.bytes();
-            if rng.chance(30) {
-                damage::damage(rng, &bytes)
-            } else {
-                bytes
-            }
+            if rng.chance(30) { damage::damage(rng, &bytes) } else { bytes }
         }
     }
 }

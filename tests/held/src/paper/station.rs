@@ -24,7 +24,7 @@ pub fn most_arrivals(flow: &Flow, d: u64) -> u64 {
 fn load(flows: &[Flow], length: u64) -> u128 {
     let mut sum = 0u128;
     for f in flows {
-        let messages = (length + f.jitter + f.period - 1) / f.period;
+        let messages = (length + f.jitter).div_ceil(f.period);
         sum += u128::from(messages) * u128::from(f.cost);
     }
     sum

@@ -39,7 +39,7 @@ pub fn line_size(payload: u64) -> Option<u64> {
 /// p = M / (Lmax − 47) rounded up (equation 4)."
 pub fn packets(message: u64, lmax: u64) -> u64 {
     let room = lmax - PROTOCOL_OVERHEAD;
-    (message + room - 1) / room
+    message.div_ceil(room)
 }
 
 /// The payloads of a message: "every packet but the last is full" (equations 4 and 7).
@@ -57,8 +57,7 @@ pub fn full_line(lmax: u64) -> u64 {
 }
 
 /// 01: "BAG codes 0 to 7 stand for these gaps in ticks".
-pub const GAPS: [u64; 8] =
-    [12_500, 25_000, 50_000, 100_000, 200_000, 400_000, 800_000, 1_600_000];
+pub const GAPS: [u64; 8] = [12_500, 25_000, 50_000, 100_000, 200_000, 400_000, 800_000, 1_600_000];
 
 /// 01: "a gap is good if it is 1 to 128 and exactly one of its bits is set".
 pub fn gap_is_good(ms: u64) -> bool {

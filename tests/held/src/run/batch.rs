@@ -1,16 +1,16 @@
 // Which items a stream holds: a fixed round of kinds, filled from the cases in order and at random.
 // A stream of 1,500 items holds every case, every size and every bend of the writer's lists.
-use crate::damage;
-use crate::edges::Case;
-use crate::heavy;
-use crate::items::{Item, MOST_BYTES, MOST_NUMBERS, MOST_ROOMS};
-use crate::mixture;
-use crate::numbers::whole_case_lists;
-use crate::random::Rng;
-use crate::rows;
-use crate::sizes;
-use crate::table::{self, Lists};
-use crate::writes;
+use crate::make::damage;
+use crate::make::edges::Case;
+use crate::make::heavy;
+use crate::make::mixture;
+use crate::make::random::Rng;
+use crate::make::sizes;
+use crate::make::whole_case;
+use crate::make::writes;
+use crate::paper::rows;
+use crate::paper::table::{self, Lists};
+use crate::run::items::{Item, MOST_BYTES, MOST_NUMBERS, MOST_ROOMS};
 
 /// Fifteen items make a round.
 const ROUND: u64 = 15;
@@ -94,7 +94,7 @@ fn special(rng: &mut Rng, round: u64) -> Item {
     match round {
         1 | 3 => {
             // 01's whole case, with room and with one number too few.
-            let bytes = table::written(&whole_case_lists()).expect("01's own table");
+            let bytes = table::written(&whole_case::lists()).expect("01's own table");
             let room = if round == 1 { 12 } else { 11 };
             return Item::Analyse { room, bytes };
         }

@@ -1,7 +1,7 @@
 // The lists of a table as named records, times already in ticks.
 // 01: "The packed table"; numbers as the unpacker speaks them.
-use crate::frame;
-use crate::table::Lists;
+use crate::paper::frame;
+use crate::paper::table::Lists;
 
 pub struct Vl {
     pub system: usize,
@@ -63,11 +63,8 @@ pub fn network(lists: &Lists) -> Network {
         period: n[5],
         jitter: n[6],
     };
-    let port = |n: &[u64]| Port {
-        per_byte: frame::ticks_per_byte(n[0]),
-        least: n[1],
-        greatest: n[2],
-    };
+    let port =
+        |n: &[u64]| Port { per_byte: frame::ticks_per_byte(n[0]), least: n[1], greatest: n[2] };
     let hop = |n: &[u64]| Hop {
         vl: n[0] as usize,
         port: n[1] as usize,

@@ -1,14 +1,15 @@
 // Runs of small accepted networks on the tick machine, each held to its rows.
 // Order, demand 3: "no earlier than its best figure and no later than its worst".
-use crate::generate::{self, Wish, LOOSE};
-use crate::machine::{run, Choices, Message, Outcome};
-use crate::mixture;
-use crate::network::{network, Network};
-use crate::plans;
-use crate::random::Rng;
-use crate::rows::{rows, Row};
-use crate::table::read;
-use crate::tight;
+use crate::make::generate::{self, LOOSE, Wish};
+use crate::make::mixture;
+use crate::make::random::Rng;
+use crate::make::tight;
+use crate::paper::network::{Network, network};
+use crate::paper::rows::{Row, rows};
+use crate::paper::table::read;
+use crate::run::directed;
+use crate::run::machine::{Choices, Message, Outcome, run};
+use crate::run::plans;
 
 /// How delays and orders are chosen in a run.
 struct Adversary<'a> {
@@ -97,7 +98,7 @@ pub fn simulate(seed: u64, count: u64) -> Summary {
         };
         let net = network(&read(&bytes).unwrap());
         summary.networks += 1;
-        one_network(rng, &net, &list, &bytes, &mut summary);
+        one_network(rng, &Accepted { net: &net, bytes: &bytes, rows: &list }, &mut summary);
         one_tight(rng, &mut summary);
     }
     summary
@@ -119,20 +120,28 @@ pub fn wish(rng: &mut Rng) -> Wish {
     w
 }
 
-fn one_network(rng: &mut Rng, net: &Network, list: &[Row], bytes: &[u8], sum: &mut Summary) {
+/// An accepted network with its bytes and its rows.
+struct Accepted<'a> {
+    net: &'a Network,
+    bytes: &'a [u8],
+    rows: &'a [Row],
+}
+
+fn one_network(rng: &mut Rng, table: &Accepted, sum: &mut Summary) {
+    let net = table.net;
     for manner in 0..5 {
         let messages = plans::random(rng, net, 25);
-        hold(rng, net, list, bytes, messages, manner, None, sum);
+        hold(rng, table, messages, manner, None, sum);
         let messages = plans::bursts(rng, net, 12);
-        hold(rng, net, list, bytes, messages, manner, None, sum);
+        hold(rng, table, messages, manner, None, sum);
     }
-    hold(rng, net, list, bytes, plans::quiet(net), 0, None, sum);
+    hold(rng, table, plans::quiet(net), 0, None, sum);
     for victim in 0..net.streams.len() {
         let vl = net.streams[victim].vl;
         if net.vls[vl].sub_links != 1 {
             continue;
         }
-        let queue = list.iter().find(|row| row[0] == victim as u64).unwrap()[2];
+        let queue = table.rows.iter().find(|row| row[0] == victim as u64).unwrap()[2];
         for _ in 0..3 {
             let Some((messages, index)) = plans::reach(rng, net, victim, queue) else {
                 sum.too_long += 1;
@@ -140,12 +149,12 @@ fn one_network(rng: &mut Rng, net: &Network, list: &[Row], bytes: &[u8], sum: &m
             };
             sum.tried += 1;
             let manner = rng.below(5);
-            let wait = hold(rng, net, list, bytes, messages, manner, Some(index), sum);
+            let wait = hold(rng, table, messages, manner, Some(index), sum);
             if wait == Some(queue) {
                 sum.reached += 1;
             } else {
-                let text = format!("stream {}: queue figure {} not reached", victim, queue);
-                violation(sum, bytes, &text);
+                let text = format!("stream {victim}: queue figure {queue} not reached");
+                violation(sum, table.bytes, &text);
             }
         }
     }
@@ -153,52 +162,53 @@ fn one_network(rng: &mut Rng, net: &Network, list: &[Row], bytes: &[u8], sum: &m
 
 /// A network and a run that bring a message exactly to its worst figure, through a port's figure.
 fn one_tight(rng: &mut Rng, sum: &mut Summary) {
-    let Some(mut t) = (0..20).find_map(|_| tight::build(rng)) else {
+    let Some(tight) = (0..20).find_map(|_| tight::build(rng)) else {
         return;
     };
-    let list = rows(&t.bytes, mixture::FULL_ROOM).expect("an accepted table");
+    let list = rows(&tight.bytes, mixture::FULL_ROOM).expect("an accepted table");
     sum.networks += 1;
     sum.ports_tried += 1;
     let before = sum.at_worst;
-    let outcome = run(&t.net, &t.messages, &mut t.choices);
-    held_to_rows(&t.net, &list, &t.bytes, &t.messages, &outcome, sum);
-    let last = &t.messages[t.last];
-    let end = outcome.completions.iter().find(|c| c.0 == t.last).unwrap().2;
-    let worst = list.iter().find(|row| row[0] == last.stream as u64).unwrap()[3];
-    if end - last.release == worst && sum.at_worst > before {
+    let messages = directed::messages(&tight);
+    let outcome = run(&tight.net, &messages, &mut directed::directed(&tight));
+    let table = Accepted { net: &tight.net, bytes: &tight.bytes, rows: &list };
+    held_to_rows(&table, &messages, &outcome, sum);
+    let last = messages.len() - 1;
+    let end = outcome.completions.iter().find(|c| c.0 == last).unwrap().2;
+    let latency = end - messages[last].release;
+    let worst = list.iter().find(|row| row[0] == messages[last].stream as u64).unwrap()[3];
+    if latency == worst && sum.at_worst > before {
         sum.ports_reached += 1;
-        sum.ports_later += u64::from(t.span > 0);
+        sum.ports_later += u64::from(tight.span > 0);
     } else {
-        let text = format!("latency {}, not the worst figure {}", end - last.release, worst);
-        violation(sum, &t.bytes, &text);
+        let text = format!("latency {latency}, not the worst figure {worst}");
+        violation(sum, &tight.bytes, &text);
     }
 }
 
 /// One run, held to its rows. Gives the wait of the victim's last packet.
-#[allow(clippy::too_many_arguments)]
 fn hold(
-    rng: &mut Rng, net: &Network, list: &[Row], bytes: &[u8], messages: Vec<Message>, manner: u64,
-    victim: Option<usize>, sum: &mut Summary,
+    rng: &mut Rng, table: &Accepted, messages: Vec<Message>, manner: u64, victim: Option<usize>,
+    sum: &mut Summary,
 ) -> Option<u64> {
     let own = Rng::new(rng.next());
     let meeting = rng.below(12_500);
-    let mut choices = Adversary { net, rng: own, manner, victim, meeting };
-    let outcome = run(net, &messages, &mut choices);
-    held_to_rows(net, list, bytes, &messages, &outcome, sum);
+    let mut choices = Adversary { net: table.net, rng: own, manner, victim, meeting };
+    let outcome = run(table.net, &messages, &mut choices);
+    held_to_rows(table, &messages, &outcome, sum);
     victim.map(|m| outcome.waits[m])
 }
 
 /// Holds every completion and every last packet's wait of a lawful run to its row.
-fn held_to_rows(
-    net: &Network, list: &[Row], bytes: &[u8], messages: &[Message], outcome: &Outcome,
-    sum: &mut Summary,
-) {
+fn held_to_rows(table: &Accepted, messages: &[Message], outcome: &Outcome, sum: &mut Summary) {
+    let net = table.net;
     assert!(plans::is_lawful(net, messages), "a plan breaks 01's rule on releases");
     sum.runs += 1;
     sum.messages += messages.len() as u64;
     for &(m, leaf, tick) in &outcome.completions {
         let message = &messages[m];
-        let row = list
+        let row = table
+            .rows
             .iter()
             .find(|row| row[0] == message.stream as u64 && row[1] == leaf as u64)
             .expect("a row for every stream and destination");
@@ -212,9 +222,8 @@ fn held_to_rows(
             raise(&mut sum.several, wait, row[2]);
         }
         if latency < row[4] || latency > row[3] || wait > row[2] {
-            let text = format!("{:?} at hop {}: latency {}, wait {}, row {:?}", message, leaf,
-                latency, wait, row);
-            violation(sum, bytes, &text);
+            let seen = format!("latency {latency}, wait {wait}, row {row:?}");
+            violation(sum, table.bytes, &format!("{message:?} at hop {leaf}: {seen}"));
         }
     }
 }
@@ -233,14 +242,19 @@ fn violation(sum: &mut Summary, bytes: &[u8], text: &str) {
 }
 
 pub fn line(s: &Summary) -> String {
-    let share = s.ratio.0 as f64 / s.ratio.1.max(1) as f64;
-    format!(
-        "{} networks, {} runs, {} messages, {} completions held to rows, {} at best, {} at worst, \
-         greatest latency/worst {}/{} = {:.4}, queue figure reached {} of {} ({} runs too long), \
-         greatest wait/queue with several sub-links {}/{}, \
-         worst reached through a port {} of {} ({} with a span above 0), {} violations",
-        s.networks, s.runs, s.messages, s.completions, s.at_best, s.at_worst, s.ratio.0, s.ratio.1,
-        share, s.reached, s.tried, s.too_long, s.several.0, s.several.1,
-        s.ports_reached, s.ports_tried, s.ports_later, s.violations.len()
-    )
+    let (latency, worst) = s.ratio;
+    let share = latency as f64 / worst.max(1) as f64;
+    let (wait, queue) = s.several;
+    let parts = [
+        format!("{} networks, {} runs, {} messages", s.networks, s.runs, s.messages),
+        format!("{} completions held to rows", s.completions),
+        format!("{} at best, {} at worst", s.at_best, s.at_worst),
+        format!("greatest latency/worst {latency}/{worst} = {share:.4}"),
+        format!("queue figure reached {} of {} ({} runs too long)", s.reached, s.tried, s.too_long),
+        format!("greatest wait/queue with several sub-links {wait}/{queue}"),
+        format!("worst reached through a port {} of {}", s.ports_reached, s.ports_tried)
+            + &format!(" ({} with a span above 0)", s.ports_later),
+        format!("{} violations", s.violations.len()),
+    ];
+    parts.join(", ")
 }

@@ -1,8 +1,8 @@
 // Tables that make searches long: queues and ports with a load just below, at and above one, and
 // many flows whose jitters differ, so that the spans to be tried are many.
-use crate::frame::GAPS;
-use crate::random::Rng;
-use crate::raw::Raw;
+use crate::make::random::Rng;
+use crate::make::raw::Raw;
+use crate::paper::frame::GAPS;
 
 /// Whole tables by number. What each answers is left to the analysis.
 pub const HEAVY: u64 = 8;

@@ -1,12 +1,11 @@
-// Networks and runs that reach a port's figure: frames of small VLs, the first ones held up as
+// Networks and plans that reach a port's figure: frames of small VLs, the first ones held up as
 // long as can be, the next ones not at all, meet at one slow port, a last frame behind them.
-use crate::machine::{Choices, Message};
-use crate::network::{network, Network};
-use crate::random::Rng;
-use crate::raw::Raw;
-use crate::rows;
-use crate::station::{busy_length, span_of_figure, Flow, LIMIT};
-use crate::table::read;
+use crate::make::random::Rng;
+use crate::make::raw::Raw;
+use crate::paper::network::{Network, network};
+use crate::paper::rows;
+use crate::paper::station::{Flow, LIMIT, busy_length, span_of_figure};
+use crate::paper::table::read;
 
 /// A feeder: a VL of 1 ms and 84 line bytes that ends at the slow port.
 struct Feeder {
@@ -19,42 +18,24 @@ struct Feeder {
     fillers: Vec<(u64, i64)>,
 }
 
-/// A lawful run with its network; the message `last` must take exactly its worst figure.
+/// A message of the plan: its stream and the tick at which it reaches its queue.
+pub struct Planned {
+    pub stream: usize,
+    pub arrival: u64,
+    /// Is it held up as long as can be, or not at all?
+    pub early: bool,
+    /// Its place among those that arrive in one tick: the lower comes first.
+    pub rank: u64,
+}
+
+/// A network with the plan of a lawful run; the plan's last message must take exactly its worst
+/// figure.
 pub struct Tight {
     pub bytes: Vec<u8>,
     pub net: Network,
-    pub messages: Vec<Message>,
-    pub last: usize,
+    pub plan: Vec<Planned>,
     /// The span at which the port's figure is taken.
     pub span: u64,
-    pub choices: Directed,
-}
-
-/// The choices of the run: by message, early ones take the greatest delays, others the least.
-pub struct Directed {
-    early: Vec<bool>,
-    ranks: Vec<u64>,
-    ports: Vec<(u64, u64)>,
-    receive: u64,
-}
-
-impl Choices for Directed {
-    fn order(&mut self, message: usize, _: Option<usize>) -> u64 {
-        self.ranks[message]
-    }
-
-    fn switch_delay(&mut self, message: usize, hop: usize, _: u64) -> u64 {
-        let (least, greatest) = self.ports[hop];
-        if self.early[message] { greatest } else { least }
-    }
-
-    fn receive_delay(&mut self, _: usize, _: usize) -> u64 {
-        self.receive
-    }
-
-    fn first_turn(&mut self, _: usize) -> usize {
-        0
-    }
 }
 
 const BAG: u64 = 12_500;
@@ -169,27 +150,19 @@ pub fn build(rng: &mut Rng) -> Option<Tight> {
 
     // All first frames reach the slow port's FIFO at the tick `meet`.
     let meet = 100_000;
-    let mut plan: Vec<(u64, u64, bool, u64)> = Vec::new();
+    let mut plan = Vec::new();
+    let mut add = |stream: u64, arrival: u64, early: bool, rank: u64| {
+        plan.push(Planned { stream: stream as usize, arrival, early, rank });
+    };
     for (f, flow) in feeders.iter().zip(&flows) {
         let hand_over = meet - f.longest;
         for k in 0..(span + flow.jitter) / BAG + 1 {
-            plan.push((f.stream, hand_over + k * BAG, k == 0, 1));
+            add(f.stream, hand_over + k * BAG, k == 0, 1);
         }
         for &(stream, shift) in &f.fillers {
-            plan.push((stream, (hand_over as i64 + shift) as u64, true, 0));
+            add(stream, (hand_over as i64 + shift) as u64, true, 0);
         }
     }
-    plan.push((last_stream, meet + span - greatest - 84, true, 2));
-    let message = |p: &(u64, u64, bool, u64)| {
-        let size = net.streams[p.0 as usize].most;
-        Message { stream: p.0 as usize, size, release: p.1 - send, arrival: p.1 }
-    };
-    let choices = Directed {
-        early: plan.iter().map(|p| p.2).collect(),
-        ranks: plan.iter().map(|p| p.3).collect(),
-        ports: net.hops.iter().map(|h| delays(&raw, h.port as u64)).collect(),
-        receive,
-    };
-    let messages: Vec<Message> = plan.iter().map(message).collect();
-    Some(Tight { bytes, last: messages.len() - 1, messages, span, choices, net })
+    add(last_stream, meet + span - greatest - 84, true, 2);
+    Some(Tight { bytes, net, plan, span })
 }

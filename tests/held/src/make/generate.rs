@@ -1,8 +1,8 @@
 // Networks of many shapes, most of them accepted: end systems, VLs with routes, streams.
 // The wish says how large and how tight; every limit of 01 is kept here.
-use crate::frame::{self, GAPS};
-use crate::random::Rng;
-use crate::raw::Raw;
+use crate::make::random::Rng;
+use crate::make::raw::Raw;
+use crate::paper::frame::{self, GAPS};
 
 /// How large and how tight a network shall be. Loads are in millionths, chances in hundredths.
 #[derive(Clone)]
@@ -30,9 +30,22 @@ pub struct Wish {
 }
 
 pub const LOOSE: Wish = Wish {
-    systems: 4, ports: 9, vls: 6, streams: 7, slow_systems: 20, slow_ports: 20, codes: (0, 7),
-    lmax: (64, 1_518), sub_links: 4, deep: 8, hops: 4, roots: 20, chain: 40, port_load: 500_000,
-    queue_load: 600_000, jitter: 4,
+    systems: 4,
+    ports: 9,
+    vls: 6,
+    streams: 7,
+    slow_systems: 20,
+    slow_ports: 20,
+    codes: (0, 7),
+    lmax: (64, 1_518),
+    sub_links: 4,
+    deep: 8,
+    hops: 4,
+    roots: 20,
+    chain: 40,
+    port_load: 500_000,
+    queue_load: 600_000,
+    jitter: 4,
 };
 
 /// The shapes of small and medium networks, by number.
@@ -195,7 +208,7 @@ fn streams(rng: &mut Rng, wish: &Wish, raw: &mut Raw) {
         let kind = u64::from(rng.chance(40));
         let mut most = if kind == 1 { rng.between(1, room) } else { long_message(rng, room) };
         let unit = (vls[vl][2] + 1) * GAPS[vls[vl][1] as usize];
-        let mut cost = (most + room - 1) / room * unit;
+        let mut cost = most.div_ceil(room) * unit;
         if left == 0 || cost * 1_000_000 / left >= 125_000_000 {
             most = most.min(room);
             cost = unit;

@@ -1,6 +1,6 @@
 // Damaged bytes: flips, cuts, extensions, exchanged and overwritten bytes, and plain noise.
 // Order, demand 1: "The software takes every table offered, damaged ones as well, and ends."
-use crate::random::Rng;
+use crate::make::random::Rng;
 
 pub fn damage(rng: &mut Rng, bytes: &[u8]) -> Vec<u8> {
     let mut b = bytes.to_vec();

@@ -1,9 +1,9 @@
 // Lists for the writer: every number of every record at its limits, past them and wider than its
 // field, lists that are no whole number of records, counts past their limits.
-use crate::mixture;
-use crate::random::Rng;
-use crate::sizes;
-use crate::table::{Lists, MOST, NUMBERS};
+use crate::make::mixture;
+use crate::make::random::Rng;
+use crate::make::sizes;
+use crate::paper::table::{Lists, MOST, NUMBERS};
 
 /// One bend of good lists: section, place in the record, value.
 pub type Bend = (usize, usize, u64);
@@ -59,7 +59,7 @@ pub fn bend(rng: &mut Rng, lists: &mut Lists, (section, place, value): Bend) {
 
 /// Lists of a small good network with records in every section.
 pub fn small(rng: &mut Rng) -> Lists {
-    let mut raw = crate::raw::Raw::empty();
+    let mut raw = crate::make::raw::Raw::empty();
     let greatest = rng.between(0, 1_875);
     raw.delays((rng.between(0, greatest), greatest), (rng.between(0, 900), 900));
     for _ in 0..rng.between(2, 4) {

@@ -1,0 +1,15 @@
+// What is tried: networks, limits, refusals, damage, and lists for the writer, all from a seed.
+// Stands on paper; nothing here names run.
+pub mod damage;
+pub mod edges;
+pub mod generate;
+pub mod heavy;
+pub mod mixture;
+pub mod overloads;
+pub mod random;
+pub mod raw;
+pub mod refusals;
+pub mod sizes;
+pub mod tight;
+pub mod whole_case;
+pub mod writes;

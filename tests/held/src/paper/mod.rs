@@ -1,0 +1,9 @@
+// 01 once more, from its words alone: frames, the packed table, its answers, the station, the rows.
+// Nothing here names make or run; a sentence of 01 stands above what follows it.
+pub mod bits;
+pub mod frame;
+pub mod network;
+pub mod refs;
+pub mod rows;
+pub mod station;
+pub mod table;
