@@ -83,15 +83,11 @@ fn command(words: &[&str]) -> Result<bool, String> {
             Ok(summary.violations.is_empty())
         }
         ["check"] => {
-            let report = check::check();
-            for line in &report.lines {
+            let (lines, failed) = check::check();
+            for line in lines {
                 println!("{}", line);
             }
-            for failure in &report.failures {
-                println!("FAILURE {}", failure);
-            }
-            println!("{} failures", report.failures.len());
-            Ok(report.failures.is_empty())
+            Ok(failed == 0)
         }
         _ => Err(USAGE.to_string()),
     }

@@ -87,19 +87,25 @@ pub struct Summary {
 }
 
 pub fn simulate(seed: u64, count: u64) -> Summary {
+    simulate_against(seed, count, &|_| ())
+}
+
+/// The same with the rows bent before the runs are held to them.
+pub fn simulate_against(seed: u64, count: u64, bend: &dyn Fn(&mut Vec<Row>)) -> Summary {
     let mut summary = Summary::default();
     for number in 0..count {
         let rng = &mut Rng::part(seed, number);
         let wish = wish(rng);
         let raw = mixture::accepted(rng, &wish);
         let bytes = raw.bytes();
-        let Ok(list) = rows(&bytes, mixture::FULL_ROOM) else {
+        let Ok(mut list) = rows(&bytes, mixture::FULL_ROOM) else {
             continue;
         };
+        bend(&mut list);
         let net = network(&read(&bytes).unwrap());
         summary.networks += 1;
         one_network(rng, &Accepted { net: &net, bytes: &bytes, rows: &list }, &mut summary);
-        one_tight(rng, &mut summary);
+        one_tight(rng, bend, &mut summary);
     }
     summary
 }
@@ -161,11 +167,12 @@ fn one_network(rng: &mut Rng, table: &Accepted, sum: &mut Summary) {
 }
 
 /// A network and a run that bring a message exactly to its worst figure, through a port's figure.
-fn one_tight(rng: &mut Rng, sum: &mut Summary) {
+fn one_tight(rng: &mut Rng, bend: &dyn Fn(&mut Vec<Row>), sum: &mut Summary) {
     let Some(tight) = (0..20).find_map(|_| tight::build(rng)) else {
         return;
     };
-    let list = rows(&tight.bytes, mixture::FULL_ROOM).expect("an accepted table");
+    let mut list = rows(&tight.bytes, mixture::FULL_ROOM).expect("an accepted table");
+    bend(&mut list);
     sum.networks += 1;
     sum.ports_tried += 1;
     let before = sum.at_worst;
