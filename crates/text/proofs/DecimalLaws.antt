@@ -1,19 +1,20 @@
 -- The digits that io's contract names, the fewest that hold a number, are those that division by ten gives; there are at most twenty,
--- and they spell the number.
+-- they are digits alone, and they spell the number.
 -- Assumes nothing.
 use Prim.Native.Nat.{ℕ, zero, suc, _+_, _-_, _*_, _/_, _%_, _^_, _≤_, _<_}
 use mathlib.Core.Path.{_≡_, refl, sym, _∙_}
-use mathlib.Core.Bool.{Bool, true, false}
+use mathlib.Core.Bool.{Bool, true, false, _&&_, false≢true}
 use mathlib.Core.List.{List, [], _∷_, _++_}
 use native.Mathlib.Omega.{arith}
 use native.Mathlib.Nat.{lt-of-not-le, mod-eq-of-lt, pow-suc, div-lt-iff-lt-mul, le-div-iff-mul-le, one-le-pow, pow-le-pow-right}
 use native.Mathlib.Decide.{decLe, decLt}
-use borrow.Author.Tests.{lt-ltb, le-ltb}
-use lib.Dec.{ltb}
+use borrow.Author.Tests.{lt-ltb, le-ltb, ltb-true, leb-true}
+use lib.Dec.{leb, ltb}
 use lib.ListN.{length, take, length-append}
 use Rattle.base.specs.Pick.{pick}
+use Rattle.base.proofs.Tests.{within-yes}
 use Rattle.io.specs.Digits.{glyph, digits, Fewest}
-use Rattle.text.specs.Text.{decimalIn, decimal, spells, SpellsBack}
+use Rattle.text.specs.Text.{decimalIn, decimal, spells, SpellsBack, all, digit, DigitsAlone}
 
 glyph-digit : (n : ℕ) → glyph (n % 10) ≡ 48 + n % 10
 glyph-digit n = rw (lt-ltb (n % 10) 10 (omega arith))
@@ -87,3 +88,60 @@ spells-back-in (suc most) n h = go (decLt n 10) (spells-back-in most (n / 10))
 pub spells-back : SpellsBack
 unfolding decimal
 spells-back n h = spells-back-in 20 n (omega arith)
+
+pub spells-none : (v : ℕ) → spells v [] ≡ v
+unfolding spells
+spells-none v = refl
+
+pub spells-next : (v b : ℕ) (bs : List ℕ) → spells v (b ∷ bs) ≡ spells (v * 10 + (b - 48)) bs
+unfolding spells
+spells-next v b bs = refl
+
+-- ---- digits alone
+pub digit-yes : (b : ℕ) → (48 ≤ b) × (b ≤ 57) → digit b ≡ true
+unfolding digit
+digit-yes b h = within-yes 48 57 b h
+
+pub digit-was : (b : ℕ) → digit b ≡ true → (48 ≤ b) × (b ≤ 57)
+unfolding digit
+digit-was b e = go (leb 48 b) (leb b 57) (leb-true 48 b) (leb-true b 57) e
+  where
+    go : (s t : Bool) → (s ≡ true → 48 ≤ b) → (t ≡ true → b ≤ 57) → s && t ≡ true → (48 ≤ b) × (b ≤ 57)
+    go true t f g k = (f refl, g k)
+    go false t f g k = absurd (false≢true k)
+
+pub all-none : (p : ℕ → Bool) → all p [] ≡ true
+unfolding all
+all-none p = refl
+
+pub all-next : (p : ℕ → Bool) (b : ℕ) (bs : List ℕ) → all p (b ∷ bs) ≡ p b && all p bs
+unfolding all
+all-next p b bs = refl
+
+pub all-append : (p : ℕ → Bool) (xs ys : List ℕ) → all p xs ≡ true → all p ys ≡ true → all p (xs ++ ys) ≡ true
+unfolding all
+all-append p [] ys h k = k
+all-append p (x ∷ xs) ys h k = both (p x) (all p xs) (all p (xs ++ ys)) h (λ t. all-append p xs ys t k)
+  where
+    both : (a b c : Bool) → a && b ≡ true → (b ≡ true → c ≡ true) → a && c ≡ true
+    both true b c t f = f t
+    both false b c t f = t
+
+digits-picked : (most n : ℕ) (t : Bool) → (t ≡ true → n < 10) → all digit (decimalIn most (n / 10)) ≡ true
+    → all digit (pick t ((48 + n) ∷ []) (decimalIn most (n / 10) ++ ((48 + n % 10) ∷ []))) ≡ true
+unfolding all
+digits-picked most n true h k = rw (digit-yes (48 + n) (omega (arith, h refl)))
+digits-picked most n false h k = all-append digit (decimalIn most (n / 10)) _ k (rw (digit-yes (48 + n % 10) (omega arith)))
+
+digits-in : (most n : ℕ) → all digit (decimalIn most n) ≡ true
+unfolding decimalIn all
+digits-in zero n = refl
+digits-in (suc most) n = digits-picked most n (ltb n 10) (ltb-true n 10) (digits-in most (n / 10))
+
+some-digit : (n : ℕ) (t : Bool) (xs : List ℕ) → 0 < length (pick t ((48 + n) ∷ []) (xs ++ ((48 + n % 10) ∷ [])))
+some-digit n true xs = omega arith
+some-digit n false xs = rw length-append (omega arith)
+
+pub digits-alone : DigitsAlone
+unfolding decimal decimalIn
+digits-alone n = (some-digit n (ltb n 10) (decimalIn 19 (n / 10)), digits-in 20 n)

@@ -2,10 +2,11 @@
 -- Assumes nothing.
 use Prim.Native.Nat.{ℕ, zero, suc, _+_, _-_, _*_, _/_, _%_, _^_, _≤_, _<_}
 use mathlib.Core.Path.{_≡_}
+use mathlib.Core.Bool.{Bool, true, _&&_}
 use mathlib.Core.List.{List, [], _∷_, _++_}
 use lib.Dec.{ltb}
 use lib.ListN.{length, take, drop}
-use Rattle.base.specs.Pick.{pick}
+use Rattle.base.specs.Pick.{pick, within}
 
 -- The bytes of a number in decimal with no zero in front, at most so many: below ten it is one, 48 ('0') and the number; any other is
 -- those of its tenth, and then 48 and the last digit. Of a number that has more digits they are the last.
@@ -49,6 +50,19 @@ spells v (b ∷ bs) = spells (v * 10 + (b - 48)) bs
 -- The bytes of a number below 2 ^ 64 spell it: no digit is lost.
 abbrev pub SpellsBack : Type 0
 SpellsBack = (n : ℕ) → n < 2 ^ 64 → spells 0 (decimal n) ≡ n
+
+-- Every byte passes a test.
+unfoldable pub all : (ℕ → Bool) → List ℕ → Bool
+all p [] = true
+all p (b ∷ bs) = p b && all p bs
+
+-- The digits are 48 ('0') to 57 ('9').
+unfoldable pub digit : ℕ → Bool
+digit b = within 48 57 b
+
+-- The bytes of a number are digits alone, one at least.
+abbrev pub DigitsAlone : Type 0
+DigitsAlone = (n : ℕ) → (0 < length (decimal n)) × (all digit (decimal n) ≡ true)
 
 -- A line of one number or more has at most 21 bytes a number: a line of six numbers fits 126 bytes.
 abbrev pub LineFits : Type 0

@@ -1,0 +1,6 @@
+pub mod PlaceLaws
+pub mod SameLaws
+pub mod SpelledLaws
+pub mod WordLaws
+pub mod PrintedLaws
+pub mod Unique

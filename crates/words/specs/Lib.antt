@@ -1,0 +1,4 @@
+pub mod Words
+pub mod Places
+pub mod Found
+pub mod Printed
