@@ -1,5 +1,5 @@
--- A part of a text is its first byte and the part behind it, and parts of a part are parts. The first place whose byte passes a test is where
--- one stands that passes, and otherwise the first from the next on.
+-- A part of a text is its first byte and the part behind it, and parts of a part are parts. The first place whose byte passes a test is
+-- the present one where its byte passes, and otherwise the first from the next on.
 -- Assumes nothing.
 use Prim.Native.Nat.{ℕ, zero, suc, _+_, _-_, _≤_, _<_, min}
 use mathlib.Core.Path.{_≡_, refl, sym, ap, _∙_}
@@ -75,7 +75,10 @@ pub part-rest : (text : List ℕ) (from : ℕ) → part text from (length text) 
 unfolding part
 part-rest text from = take-all (length text - from) (drop from text) (rw length-drop (omega arith))
 
--- ---- the bytes before the first that passes
+-- ---- the bytes before the first that passes, and those from it on
+abbrev pub since : (ℕ → Bool) → List ℕ → List ℕ
+since p l = drop (length (before p l)) l
+
 module _ (p : ℕ → Bool) where
   pub before-none : before p [] ≡ []
   unfolding before
@@ -100,12 +103,12 @@ module _ (p : ℕ → Bool) where
       go false e = ap (λ (l : List ℕ). b ∷ l) e
 
   -- behind them is one that passes, or nothing
-  pub before-again : (l : List ℕ) → before p (drop (length (before p l)) l) ≡ []
+  pub before-again : (l : List ℕ) → before p (since p l) ≡ []
   unfolding before
   before-again [] = refl
   before-again (b ∷ bs) = go (p b) refl (before-again bs)
     where
-      go : (t : Bool) → p b ≡ t → before p (drop (length (before p bs)) bs) ≡ []
+      go : (t : Bool) → p b ≡ t → before p (since p bs) ≡ []
           → before p (drop (length (pick t [] (b ∷ before p bs))) (b ∷ bs)) ≡ []
       go true e ih = rw e
       go false e ih = ih
@@ -139,9 +142,10 @@ module _ (p : ℕ → Bool) (text : List ℕ) (at end : ℕ) where
   pub part-before : part text at (firstPlace p text at end) ≡ before p (part text at end)
   unfolding firstPlace
   part-before =
-      let few : length (before p (part text at end)) ≤ end - at = omega (arith, length-before p (part text at end), length-part text at end) in
-      sym (part-take text at end (length (before p (part text at end))) few) ∙ before-taken p (part text at end)
+      let l = part text at end in
+      let few : length (before p l) ≤ end - at = omega (arith, length-before p l, length-part text at end) in
+      sym (part-take text at end (length (before p l)) few) ∙ before-taken p l
 
-  pub part-from : part text (firstPlace p text at end) end ≡ drop (length (before p (part text at end))) (part text at end)
+  pub part-from : part text (firstPlace p text at end) end ≡ since p (part text at end)
   unfolding firstPlace
   part-from = sym (part-drop text at end (length (before p (part text at end))))

@@ -1,22 +1,24 @@
--- What is printed is read back: a word has no byte at which a line is cut into words or the text into lines, so each cut that is found is one
--- that the printing put there. A number in decimal is such a word.
+-- What is printed is read back: a word has no byte at which a line is cut into words or the text into lines, so each cut that is found is
+-- one that the printing put there. A number in decimal is such a word.
 -- Assumes nothing.
-use Prim.Native.Nat.{ℕ, _≤_, _<_, _^_, min}
+use Prim.Native.Nat.{ℕ, _<_}
 use mathlib.Core.Path.{_≡_, refl, sym, ap, _∙_}
-use mathlib.Core.Bool.{Bool, true, false, not, _&&_, _||_, false≢true}
-use mathlib.Core.List.{List, [], _∷_, _++_, append-nil}
+use mathlib.Core.Bool.{Bool, true, false, not, _&&_, false≢true}
+use mathlib.Core.List.{List, [], _∷_, _++_, append-assoc, append-nil}
 use mathlib.Core.Option.{some}
 use native.Mathlib.Omega.{arith}
 use borrow.Author.Tests.{ne-eqb}
-use lib.ListN.{length, drop}
+use lib.ListN.{length}
 use lib.Seq.{drop-append-seam}
-use Rattle.text.specs.Text.{decimal, spells, all, digit}
+use Rattle.text.specs.Text.{decimal, all, digit}
 use Rattle.text.proofs.DecimalLaws.{all-none, all-next, all-append, digit-was, digits-alone, spells-back}
-use Rattle.words.specs.Words.{feed, hash, blank, before, inFront, splitAt, linesOf, wordsOf, numeral}
+use Rattle.text.proofs.LineLaws.{spaced-from-none, spaced-from-first}
+use Rattle.words.specs.Words.{feed, hash, blank, before, inFront, splitAt, linesOf, wordsOf}
 use Rattle.words.specs.Places.{ends}
-use Rattle.words.specs.Printed.{inLine, inWord, isWord, areWords, areLines, lineFrom, lineOf, textOf, WordsBack, LinesBack, WordsAreALine, NumberBack}
+use Rattle.words.specs.Printed.{inLine, inWord, isWord, areWords, areLines, lineFrom, lineOf, textOf}
+use Rattle.words.specs.Printed.{WordsBack, LinesBack, LastLineBack, WordsAreALine, NumberBack, NumbersAreWords}
 use Rattle.words.proofs.PlaceLaws.{before-stop, before-go}
-use Rattle.words.proofs.SpelledLaws.{greatest, numeral-some}
+use Rattle.words.proofs.SpelledLaws.{numeral-some}
 use Rattle.words.proofs.WordLaws.{no-words, split-on, skip-blank, word-first}
 
 -- ---- both tests passed, and what all pass is weaker tests pass
@@ -101,12 +103,23 @@ line-read (b ∷ l) r e =
     let h = both (inLine b) (all inLine l) (sym (all-next inLine b l) ∙ e) in
     split-on feed b (l ++ (10 ∷ r)) (in-line b (h .0)) ∙ ap (inFront b) (line-read l r (h .1))
 
+split-nowhere : (l : List ℕ) → all inLine l ≡ true → linesOf l ≡ l ∷ []
+unfolding linesOf splitAt inFront
+split-nowhere [] e = refl
+split-nowhere (b ∷ l) e =
+    let h = both (inLine b) (all inLine l) (sym (all-next inLine b l) ∙ e) in
+    split-on feed b l (in-line b (h .0)) ∙ ap (inFront b) (split-nowhere l (h .1))
+
+pub last-line-back : LastLineBack
+unfolding textOf areLines
+last-line-back [] l e d = split-nowhere l d
+last-line-back (k ∷ ls) l e d =
+    let h = both (all inLine k) (areLines ls) e in
+    rw (append-assoc k (10 ∷ textOf ls) l)
+    (line-read k (textOf ls ++ l) (h .0) ∙ ap (λ (m : List (List ℕ)). k ∷ m) (last-line-back ls l (h .1) d))
+
 pub lines-back : LinesBack
-unfolding textOf areLines linesOf splitAt
-lines-back [] e = refl
-lines-back (l ∷ ls) e =
-    let h = both (all inLine l) (areLines ls) e in
-    line-read l (textOf ls) (h .0) ∙ ap (λ (k : List (List ℕ)). l ∷ k) (lines-back ls (h .1))
+lines-back ls e = rw append-nil at (last-line-back ls [] e (all-none inLine))
 
 word-line : (w : List ℕ) → isWord w ≡ true → all inLine w ≡ true
 word-line w e = all-weaker inWord inLine (λ b h. in-word-was b h .1) w (word-bytes w e)
@@ -143,9 +156,19 @@ unfolding isWord
 digits-word [] h e = absurd (omega arith)
 digits-word (b ∷ w) h e = all-weaker digit inWord digit-in-word (b ∷ w) e
 
+decimal-word : (n : ℕ) → isWord (decimal n) ≡ true
+decimal-word n = let d = digits-alone n in digits-word (decimal n) (d .0) (d .1)
+
 pub number-back : NumberBack
 number-back n h =
-    let d = digits-alone n in (
-      digits-word (decimal n) (d .0) (d .1),
-      numeral-some (decimal n) (d .0) (d .1) ∙ ap some (rw (spells-back n h) (omega arith)),
+    let d = digits-alone n in
+    (decimal-word n, numeral-some (decimal n) (d .0) (d .1) ∙ ap some (rw (spells-back n h) (omega arith)))
+
+pub numbers-are-words : NumbersAreWords
+unfolding areWords lineFrom
+numbers-are-words [] = (refl, sym spaced-from-none)
+numbers-are-words (n ∷ ns) =
+    let rest = numbers-are-words ns in (
+      rw (decimal-word n) (rest .0),
+      ap (λ (l : List ℕ). (32 ∷ decimal n) ++ l) (rest .1) ∙ sym (spaced-from-first n ns),
     )

@@ -4,7 +4,6 @@ use Prim.Native.Nat.{ℕ, suc, _≤_, _<_}
 use mathlib.Core.Path.{_≡_, refl, ap}
 use mathlib.Core.Bool.{Bool, true, false, _&&_, false≢true}
 use mathlib.Core.List.{List, [], _∷_}
-use native.Mathlib.Omega.{arith}
 use borrow.Author.Tests.{eqb-true, eq-eqb, ne-eqb}
 use lib.Dec.{eqb}
 use lib.ListN.{length, drop, getD, drop-of-length-le}
@@ -36,7 +35,8 @@ same-lengths v w h = go (same v w) (same-was v w)
 
 -- ---- from place i on
 module _ (v w : List ℕ) (i : ℕ) where
-  pub same-next : i < length v → i < length w → getD v i 0 ≡ getD w i 0 → same (drop i v) (drop i w) ≡ same (drop (suc i) v) (drop (suc i) w)
+  pub same-next : i < length v → i < length w → getD v i 0 ≡ getD w i 0
+      → same (drop i v) (drop i w) ≡ same (drop (suc i) v) (drop (suc i) w)
   unfolding same
   same-next h k e = rw (drop-cons v i 0 h, drop-cons w i 0 k, eq-eqb (getD v i 0) (getD w i 0) e)
 

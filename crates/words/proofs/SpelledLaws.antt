@@ -1,14 +1,14 @@
 -- The number of a word, digit by digit: a number that has passed the greatest stays there, so the cap may be put on at every digit.
 -- Assumes nothing.
-use Prim.Native.Nat.{ℕ, zero, suc, _+_, _-_, _*_, _^_, _≤_, _<_, min}
-use mathlib.Core.Path.{_≡_, refl, sym, ap, _∙_}
-use mathlib.Core.Bool.{Bool, true, false, _&&_}
+use Prim.Native.Nat.{ℕ, suc, _+_, _-_, _*_, _^_, _≤_, _<_, min}
+use mathlib.Core.Path.{_≡_, refl, sym, _∙_}
+use mathlib.Core.Bool.{true, false}
 use mathlib.Core.List.{List, [], _∷_}
 use mathlib.Core.Option.{none, some}
 use native.Mathlib.Omega.{arith}
 use lib.ListN.{length, drop, getD, drop-of-length-le}
 use lib.Seq.{drop-cons}
-use Rattle.text.specs.Text.{spells, all, digit, decimal}
+use Rattle.text.specs.Text.{spells, all, digit}
 use Rattle.text.proofs.DecimalLaws.{spells-none, spells-next, all-none, all-next}
 use Rattle.words.specs.Words.{numeral}
 

@@ -1,23 +1,22 @@
--- The first piece of a text that is cut is what stands before the first cut, and the others are the pieces of what stands behind it. So the
--- lines of a text, and the words of a line, are found one by one from the front.
+-- The first piece of a text that is cut is what stands before the first cut, and the others are the pieces of what stands behind it.
+-- So the lines of a text, and the words of a line, are found one by one from the front.
 -- Assumes nothing.
-use Prim.Native.Nat.{ℕ, zero, suc, _+_, _-_, _≤_, _<_, min}
+use Prim.Native.Nat.{ℕ, _-_, _<_}
 use mathlib.Core.Path.{_≡_, refl, sym, ap, _∙_}
-use mathlib.Core.Bool.{Bool, true, false, not, _||_, false≢true}
+use mathlib.Core.Bool.{Bool, true, false, not, false≢true}
 use mathlib.Core.List.{List, [], _∷_}
 use native.Mathlib.Omega.{arith}
 use native.Mathlib.Numerals.{add-one}
-use native.Mathlib.Nat.{lt-of-not-le}
-use native.Mathlib.Decide.{decLt}
 use borrow.Author.Tests.{eqb-true}
 use lib.Dec.{eqb}
-use lib.ListN.{length, take, drop, getD, drop-of-length-le, length-drop}
-use lib.Seq.{drop-cons, drop-drop, take-all}
+use lib.ListN.{length, drop, drop-of-length-le, length-drop}
+use lib.Seq.{drop-cons, take-all}
 use Rattle.base.specs.Pick.{pick}
 use Rattle.words.specs.Words.{feed, hash, blank, before, inFront, splitAt, present, linesOf, uncommented, wordsOf}
 use Rattle.words.specs.Places.{part, firstPlace, lineEnd, begins, ends, wordAt}
 use Rattle.words.specs.Found.{LinesStep, LinesLast, LineWithin, WordsStep, WordsLast, WordWithin}
-use Rattle.words.proofs.PlaceLaws.{no-bytes, before-stop, before-go, before-again, part-rest, part-before, part-from, first-from, first-to}
+use Rattle.words.proofs.PlaceLaws.{no-bytes, since, before-stop, before-go, before-again, part-rest}
+use Rattle.words.proofs.PlaceLaws.{part-before, part-from, first-from, first-to}
 
 -- ---- pieces
 -- the pieces behind a cut: none where the text ends there
@@ -25,12 +24,12 @@ pub behind : (ℕ → Bool) → List ℕ → List (List ℕ)
 behind p [] = []
 behind p (b ∷ bs) = splitAt p bs
 
-pub split-first : (p : ℕ → Bool) (l : List ℕ) → splitAt p l ≡ before p l ∷ behind p (drop (length (before p l)) l)
+pub split-first : (p : ℕ → Bool) (l : List ℕ) → splitAt p l ≡ before p l ∷ behind p (since p l)
 unfolding splitAt before inFront behind
 split-first p [] = refl
 split-first p (b ∷ bs) = go (p b) (split-first p bs)
   where
-    go : (t : Bool) → splitAt p bs ≡ before p bs ∷ behind p (drop (length (before p bs)) bs)
+    go : (t : Bool) → splitAt p bs ≡ before p bs ∷ behind p (since p bs)
         → pick t ([] ∷ splitAt p bs) (inFront b (splitAt p bs))
         ≡ pick t [] (b ∷ before p bs) ∷ behind p (drop (length (pick t [] (b ∷ before p bs))) (b ∷ bs))
     go true e = refl
@@ -62,12 +61,12 @@ unfolding wordsOf uncommented splitAt present
 comment-none b l e = rw (before-stop hash b l e)
 
 -- blanks in front are passed over
-pub skip-blanks : (l : List ℕ) → wordsOf l ≡ wordsOf (drop (length (before begins l)) l)
+pub skip-blanks : (l : List ℕ) → wordsOf l ≡ wordsOf (since begins l)
 unfolding before begins
 skip-blanks [] = refl
 skip-blanks (b ∷ bs) = go (blank b) refl (skip-blanks bs)
   where
-    go : (t : Bool) → blank b ≡ t → wordsOf bs ≡ wordsOf (drop (length (before begins bs)) bs)
+    go : (t : Bool) → blank b ≡ t → wordsOf bs ≡ wordsOf (since begins bs)
         → wordsOf (b ∷ bs) ≡ wordsOf (drop (length (pick (not t) [] (b ∷ before begins bs))) (b ∷ bs))
     go true e k = skip-blank b bs e ∙ k
     go false e k = refl
@@ -75,14 +74,14 @@ skip-blanks (b ∷ bs) = go (blank b) refl (skip-blanks bs)
 -- ---- the first word
 -- a line without its comment, cut at blanks: its first piece ends at a blank or at the comment
 split-uncommented : (l : List ℕ)
-    → splitAt blank (before hash l) ≡ before ends l ∷ behind blank (before hash (drop (length (before ends l)) l))
+    → splitAt blank (before hash l) ≡ before ends l ∷ behind blank (before hash (since ends l))
 unfolding splitAt before behind ends inFront
 split-uncommented [] = refl
 split-uncommented (b ∷ bs) = go (hash b) (blank b) refl refl (split-uncommented bs)
   where
     go : (h k : Bool) → hash b ≡ h → blank b ≡ k
-        → splitAt blank (before hash bs) ≡ before ends bs ∷ behind blank (before hash (drop (length (before ends bs)) bs))
-        → splitAt blank (before hash (b ∷ bs)) ≡ before ends (b ∷ bs) ∷ behind blank (before hash (drop (length (before ends (b ∷ bs))) (b ∷ bs)))
+        → splitAt blank (before hash bs) ≡ before ends bs ∷ behind blank (before hash (since ends bs))
+        → splitAt blank (before hash (b ∷ bs)) ≡ before ends (b ∷ bs) ∷ behind blank (before hash (since ends (b ∷ bs)))
     go true true e f ih = simp (e, f)
     go true false e f ih = simp (e, f)
     go false true e f ih = simp (e, f)
@@ -99,12 +98,12 @@ behind-words (b ∷ m) e = go (hash b) (blank b) refl refl e
     go false true e f d = rw (e, f)
     go false false e f d = absurd (omega (arith, ap length (rw (e, f) at d)))
 
-pub word-first : (l : List ℕ) → 0 < length (before ends l) → wordsOf l ≡ before ends l ∷ wordsOf (drop (length (before ends l)) l)
+pub word-first : (l : List ℕ) → 0 < length (before ends l) → wordsOf l ≡ before ends l ∷ wordsOf (since ends l)
 unfolding wordsOf uncommented present
 word-first l h =
     ap present (split-uncommented l)
-    ∙ go (before ends l) (behind blank (before hash (drop (length (before ends l)) l))) h
-    ∙ ap (λ (ws : List (List ℕ)). before ends l ∷ ws) (behind-words (drop (length (before ends l)) l) (before-again ends l))
+    ∙ go (before ends l) (behind blank (before hash (since ends l))) h
+    ∙ ap (λ (ws : List (List ℕ)). before ends l ∷ ws) (behind-words (since ends l) (before-again ends l))
   where
     go : (w : List ℕ) (ps : List (List ℕ)) → 0 < length w → present (w ∷ ps) ≡ w ∷ present ps
     go [] ps h = absurd (omega arith)
@@ -127,10 +126,10 @@ module _ (text : List ℕ) (at : ℕ) where
   unfolding lineEnd
   line-part = ap (before feed) (sym (part-rest text at)) ∙ sym (part-before feed text at (length text))
 
-  line-rest : drop (length (before feed (drop at text))) (drop at text) ≡ drop (lineEnd text at) text
+  line-rest : since feed (drop at text) ≡ drop (lineEnd text at) text
   unfolding lineEnd
   line-rest =
-      ap (λ (l : List ℕ). drop (length (before feed l)) l) (sym (part-rest text at))
+      ap (λ (l : List ℕ). since feed l) (sym (part-rest text at))
       ∙ sym (part-from feed text at (length text)) ∙ part-rest text (lineEnd text at)
 
 pub lines-step : LinesStep
@@ -166,7 +165,7 @@ words-step text at end h =
     let rest = part text from end in
     from-word text at end
     ∙ word-first rest (omega arith)
-    ∙ ap (λ (w : List ℕ). w ∷ wordsOf (drop (length (before ends rest)) rest)) (word-part text at end)
+    ∙ ap (λ (w : List ℕ). w ∷ wordsOf (since ends rest)) (word-part text at end)
     ∙ ap (λ (l : List ℕ). part text from to ∷ wordsOf l) (sym (part-from ends text from end))
 
 pub words-last : WordsLast
@@ -174,7 +173,9 @@ unfolding wordAt firstPlace
 words-last text at end h =
     let rest = part text (wordAt text at end .from) end in
     from-word text at end
-    ∙ no-word rest (ap (before begins) (part-from begins text at end) ∙ before-again begins (part text at end)) (no-bytes (before ends rest) (omega arith))
+    ∙ no-word rest
+    (ap (before begins) (part-from begins text at end) ∙ before-again begins (part text at end))
+    (no-bytes (before ends rest) (omega arith))
 
 pub word-within : WordWithin
 unfolding wordAt

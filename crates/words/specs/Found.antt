@@ -25,7 +25,8 @@ LineWithin = (text : List ℕ) (at : ℕ) → at ≤ length text → (at ≤ lin
 abbrev pub WordsStep : Type 0
 WordsStep =
     (text : List ℕ) (at end : ℕ) → wordAt text at end .from < wordAt text at end .to
-    → wordsOf (part text at end) ≡ part text (wordAt text at end .from) (wordAt text at end .to) ∷ wordsOf (part text (wordAt text at end .to) end)
+    → wordsOf (part text at end)
+    ≡ part text (wordAt text at end .from) (wordAt text at end .to) ∷ wordsOf (part text (wordAt text at end .to) end)
 
 -- Where none is found, there is none.
 abbrev pub WordsLast : Type 0

@@ -16,11 +16,11 @@ use Rattle.words.specs.Words.{feed, hash, blank, before}
 unfoldable pub part : List ℕ → ℕ → ℕ → List ℕ
 part text from to = take (to - from) (drop from text)
 
--- The first place from `at` on, before `end` and the text's end, whose byte passes a test; where none does, the place where they end.
+-- The first place from `at` on, before `end` and the text's end, whose byte passes a test; where none does, where these bytes end.
 unfoldable pub firstPlace : (ℕ → Bool) → List ℕ → ℕ → ℕ → ℕ
 firstPlace p text at end = at + length (before p (part text at end))
 
--- Where the line that is read from `at` on ends: at the first line feed, or at the text's end. From a place past that it is the place itself.
+-- Where the line that is read from `at` on ends: at the first line feed, or at the text's end; from a place past that, at the place itself.
 unfoldable pub lineEnd : List ℕ → ℕ → ℕ
 lineEnd text at = firstPlace feed text at (length text)
 
@@ -31,7 +31,7 @@ begins b = not (blank b)
 unfoldable pub ends : ℕ → Bool
 ends b = blank b || hash b
 
--- The next word of the part of a line from `at` to before `end`. Where there is none, since the comment or the end comes first, it is empty.
+-- The next word of the part of a line from `at` to before `end`; empty where there is none, since the comment or the end comes first.
 unfoldable pub wordAt : List ℕ → ℕ → ℕ → Span
 wordAt text at end =
     let from = firstPlace begins text at end in

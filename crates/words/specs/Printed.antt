@@ -2,10 +2,10 @@
 -- Assumes nothing.
 use Prim.Native.Nat.{ℕ, _<_, _^_}
 use mathlib.Core.Path.{_≡_}
-use mathlib.Core.Bool.{Bool, true, false, not, _&&_, _||_}
-use mathlib.Core.List.{List, [], _∷_, _++_}
+use mathlib.Core.Bool.{Bool, true, false, not, _&&_}
+use mathlib.Core.List.{List, [], _∷_, _++_, map}
 use mathlib.Core.Option.{some}
-use Rattle.text.specs.Text.{decimal, all}
+use Rattle.text.specs.Text.{decimal, spacedFrom, all}
 use Rattle.words.specs.Words.{feed, linesOf, wordsOf, numeral}
 use Rattle.words.specs.Places.{ends}
 
@@ -52,6 +52,11 @@ WordsBack = (ws : List (List ℕ)) → areWords ws ≡ true → wordsOf (lineOf 
 abbrev pub LinesBack : Type 0
 LinesBack = (ls : List (List ℕ)) → areLines ls ≡ true → linesOf (textOf ls) ≡ ls ++ ([] ∷ [])
 
+-- A last line that no line feed ends is read too.
+abbrev pub LastLineBack : Type 0
+LastLineBack =
+    (ls : List (List ℕ)) (l : List ℕ) → areLines ls ≡ true → all inLine l ≡ true → linesOf (textOf ls ++ l) ≡ ls ++ (l ∷ [])
+
 -- A line of words has no line feed.
 abbrev pub WordsAreALine : Type 0
 WordsAreALine = (ws : List (List ℕ)) → areWords ws ≡ true → all inLine (lineOf ws) ≡ true
@@ -59,3 +64,14 @@ WordsAreALine = (ws : List (List ℕ)) → areWords ws ≡ true → all inLine (
 -- A number in decimal is a word, and the number of that word.
 abbrev pub NumberBack : Type 0
 NumberBack = (n : ℕ) → n < 2 ^ 64 → (isWord (decimal n) ≡ true) × (numeral (decimal n) ≡ some n)
+
+-- Numbers in decimal are words, and these words are printed as `text` prints the numbers.
+abbrev pub NumbersAreWords : Type 0
+NumbersAreWords = (ns : List ℕ) → (areWords (map decimal ns) ≡ true) × (lineFrom (map decimal ns) ≡ spacedFrom ns)
+
+-- A comment changes nothing of the words before it, and neither does the carriage return (13) that some texts have before a line feed.
+abbrev pub CommentPassed : Type 0
+CommentPassed = (line comment : List ℕ) → wordsOf (line ++ (35 ∷ comment)) ≡ wordsOf line
+
+abbrev pub ReturnPassed : Type 0
+ReturnPassed = (line : List ℕ) → wordsOf (line ++ (13 ∷ [])) ≡ wordsOf line

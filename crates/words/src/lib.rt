@@ -18,7 +18,7 @@ pub enum Numeral {
 }
 
 // What a walk over the bytes looks for.
-pub enum Sought {
+enum Sought {
     LineFeed,
     Word,
     WordEnd,

@@ -5,7 +5,7 @@ use Prim.Native.Nat.{_-_}
 use mathlib.Core.Path.{_≡_, refl, sym, _∙_}
 use native.Mathlib.Omega.{arith}
 use native.Mathlib.Numerals.{add-one}
-use lib.ListN.{length, drop}
+use lib.ListN.{drop}
 use Rattle.words.specs.Words.{same}
 use Rattle.words.proofs.SameLaws.{same-lengths, same-next, same-differs, same-end}
 use Rattle.words.proofs.are_same.Statement.{statement}

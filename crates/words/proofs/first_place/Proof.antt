@@ -20,14 +20,15 @@ returns : tie.Need-returns Inv-loop μ-loop
 returns c =
     let l = c .before .before .before .before .loop in
     let a = c .before .before .before .before .before .before .before .args in
-    sym (first-stop (sought (a .what)) (a .text .now) (l .place) (a .end) (omega arith) (omega arith) (sym (c .before .is-sought .ensures) ∙ c .if1 .taken)) ∙ l .inv
+    let passes = sym (c .before .is-sought .ensures) ∙ c .if1 .taken in
+    sym (first-stop (sought (a .what)) (a .text .now) (l .place) (a .end) (omega arith) (omega arith) passes) ∙ l .inv
 
 loop-again : tie.Need-loop-again Inv-loop μ-loop
 loop-again c =
     let l = c .before .before .before .before .loop in
     let a = c .before .before .before .before .before .before .before .args in
-    rw add-one
-    (sym (first-go (sought (a .what)) (a .text .now) (l .place) (a .end) (omega arith) (omega arith) (sym (c .before .is-sought .ensures) ∙ c .if1 .left)) ∙ l .inv)
+    let fails = sym (c .before .is-sought .ensures) ∙ c .if1 .left in
+    rw add-one (sym (first-go (sought (a .what)) (a .text .now) (l .place) (a .end) (omega arith) (omega arith) fails) ∙ l .inv)
 
 returns-2 : tie.Need-returns-2 Inv-loop μ-loop
 returns-2 c =

@@ -1,7 +1,6 @@
 -- `words::is_blank` meets its contract: one test for each blank.
 -- Assumes nothing.
 use borrow.Author.Tests.{eq-eqb, ne-eqb}
-use mathlib.Core.Bool.{or-true}
 use Rattle.words.specs.Words.{blank}
 use Rattle.words.proofs.is_blank.Statement.{statement}
 use Rattle.words.proofs.is_blank.Tie as tie

@@ -10,7 +10,8 @@ returns c =
     let a = c .before .before .before .before .before .before .args in
     let to = c .before .before .before .least in
     let from = c .before .before .least2 in
-    rw (← part-held (a .text .now) (a .span .from) (a .span .to) (from .result) (to .result) (to .ensures) (from .ensures)) (c .are-same .ensures)
+    let held = part-held (a .text .now) (a .span .from) (a .span .to) (from .result) (to .result) (to .ensures) (from .ensures) in
+    rw (← held) (c .are-same .ensures)
 
 pub is-word-spec : {M : Type 1} → statement M
 is-word-spec =

@@ -10,13 +10,16 @@ use borrow.Author.Tests.{not-true, not-false}
 use lib.ListN.{length, drop}
 use Rattle.text.specs.Text.{spells, all, digit}
 use Rattle.words.specs.Places.{told}
-use Rattle.words.proofs.SpelledLaws.{greatest, numeral-some, numeral-none, numeral-empty, digits-next, digits-broken, digits-end, capped-next, capped-end}
+use Rattle.words.proofs.SpelledLaws.{greatest, numeral-some, numeral-none, numeral-empty}
+use Rattle.words.proofs.SpelledLaws.{digits-next, digits-broken, digits-end, capped-next, capped-end}
 use Rattle.words.proofs.numeral_of.Statement.{statement}
 use Rattle.words.proofs.numeral_of.Tie as tie
 
 abbrev Inv-loop : tie.InvT-loop
 Inv-loop word number₀ i₀ number i =
-    (all digit (drop i word) ≡ all digit word) × (min (spells number (drop i word)) greatest ≡ min (spells 0 word) greatest) × (number ≤ greatest)
+    (all digit (drop i word) ≡ all digit word)
+    × (min (spells number (drop i word)) greatest ≡ min (spells 0 word) greatest)
+    × (number ≤ greatest)
 
 abbrev μ-loop : tie.MeasureT-loop
 μ-loop word number₀ i₀ number i = length word - i
