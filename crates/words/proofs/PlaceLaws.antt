@@ -1,7 +1,7 @@
 -- A part of a text is its first byte and the part behind it, and parts of a part are parts. The first place whose byte passes a test is
 -- the present one where its byte passes, and otherwise the first from the next on.
 -- Assumes nothing.
-use Prim.Native.Nat.{ℕ, zero, suc, _+_, _-_, _≤_, _<_, min}
+use Prim.Native.Nat.{ℕ, zero, suc, _+_, _-_, _≤_, _<_, min, max}
 use mathlib.Core.Path.{_≡_, refl, sym, ap, _∙_}
 use mathlib.Core.Bool.{Bool, true, false}
 use mathlib.Core.List.{List, [], _∷_}
@@ -134,9 +134,9 @@ module _ (p : ℕ → Bool) (text : List ℕ) (at end : ℕ) where
   unfolding firstPlace
   first-from = omega arith
 
-  pub first-to : at ≤ end → firstPlace p text at end ≤ end
+  pub first-to : firstPlace p text at end ≤ max at (min end (length text))
   unfolding firstPlace
-  first-to h = omega (arith, length-before p (part text at end), length-part text at end)
+  first-to = omega (arith, length-before p (part text at end), length-part text at end)
 
   -- the part before it, and the part from it on
   pub part-before : part text at (firstPlace p text at end) ≡ before p (part text at end)

@@ -145,7 +145,7 @@ lines-last text at h =
 
 pub line-within : LineWithin
 unfolding lineEnd
-line-within text at h = (first-from feed text at (length text), first-to feed text at (length text) h)
+line-within text at = (first-from feed text at (length text), omega (arith, first-to feed text at (length text)))
 
 module _ (text : List ℕ) (at end : ℕ) where
   -- the words from the first byte that is no blank
@@ -179,6 +179,6 @@ words-last text at end h =
 
 pub word-within : WordWithin
 unfolding wordAt
-word-within text at end h =
+word-within text at end =
     let from = firstPlace begins text at end in
-    (first-from begins text at end, first-from ends text from end, first-to ends text from end (first-to begins text at end h))
+    (first-from begins text at end, first-from ends text from end, omega (arith, first-to begins text at end, first-to ends text from end))

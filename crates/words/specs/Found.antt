@@ -1,6 +1,6 @@
 -- The routines find every line of a text and every word of a line, one by one from the front, and nothing else.
 -- Assumes nothing.
-use Prim.Native.Nat.{ℕ, _+_, _≤_, _<_}
+use Prim.Native.Nat.{ℕ, _+_, _≤_, _<_, min, max}
 use mathlib.Core.Path.{_≡_}
 use mathlib.Core.List.{List, [], _∷_}
 use lib.ListN.{length, drop}
@@ -17,9 +17,9 @@ LinesStep =
 abbrev pub LinesLast : Type 0
 LinesLast = (text : List ℕ) (at : ℕ) → length text ≤ lineEnd text at → linesOf (drop at text) ≡ drop at text ∷ []
 
--- A line ends where it begins or later, and not past the text's end.
+-- A line that begins within the text ends no earlier than it begins, and within the text.
 abbrev pub LineWithin : Type 0
-LineWithin = (text : List ℕ) (at : ℕ) → at ≤ length text → (at ≤ lineEnd text at) × (lineEnd text at ≤ length text)
+LineWithin = (text : List ℕ) (at : ℕ) → (at ≤ lineEnd text at) × (lineEnd text at ≤ max at (length text))
 
 -- Where a word is found, the words from a place on are it, and the words behind it.
 abbrev pub WordsStep : Type 0
@@ -32,8 +32,10 @@ WordsStep =
 abbrev pub WordsLast : Type 0
 WordsLast = (text : List ℕ) (at end : ℕ) → wordAt text at end .to ≤ wordAt text at end .from → wordsOf (part text at end) ≡ []
 
--- A word stands within the part where it is looked for.
+-- A word stands within the part where it is looked for, and within the text. From a place past these there is none, and the place stays.
 abbrev pub WordWithin : Type 0
 WordWithin =
-    (text : List ℕ) (at end : ℕ) → at ≤ end
-    → (at ≤ wordAt text at end .from) × (wordAt text at end .from ≤ wordAt text at end .to) × (wordAt text at end .to ≤ end)
+    (text : List ℕ) (at end : ℕ)
+    → (at ≤ wordAt text at end .from)
+    × (wordAt text at end .from ≤ wordAt text at end .to)
+    × (wordAt text at end .to ≤ max at (min end (length text)))
