@@ -5,7 +5,7 @@ use mathlib.Core.Bool.{true, false, true≢false, _&&_}
 use mathlib.Core.List.{List, map, List·Memᴰ}
 use mathlib.Core.Logic.{⊎-elim}
 use mathlib.Core.Option.{Option, none, some}
-use mathlib.Core.Path.{_≡_, refl, sym, _∙_}
+use mathlib.Core.Path.{_≡_, refl, sym, _∙_, ap}
 use native.Mathlib.Nat.{le-trans, mul-le-mul}
 use native.Mathlib.Omega.{arith}
 use borrow.Author.Tests.{le-leb}
@@ -15,6 +15,8 @@ use Rattle.base.specs.Tests.{numberOr0}
 use Rattle.base.proofs.LeastLaws.{greatest-le}
 use Rattle.base.proofs.TabulateLaws.{passing-member, length-passing}
 use Rattle.base.proofs.TestLaws.{number-is, number-of-none}
+use Rattle.frame.specs.Tick.{TickRules}
+use Rattle.frame.proofs.TickLaws.{longest-is}
 use Rattle.frame.specs.Frame.{protocolOverhead, leastLine, largestLine}
 use Rattle.frame.specs.Packets.{packets}
 use Rattle.frame.proofs.FrameLaws.{largest-line-bounds, protocol-overhead-is}
@@ -28,11 +30,11 @@ use Rattle.network.specs.References.{routeLonger}
 use Rattle.network.specs.Ranges.{Ranges, VlRange, SpeedRange}
 use Rattle.network.proofs.PortLaws.{on-port, no-more-than-hops}
 use Rattle.network.proofs.RouteLaws.{child-longer}
-use Rattle.station.specs.Station.{Flow, limit, busyLength, figure}
+use Rattle.station.specs.Station.{Flow, busyLengthTo, figure}
 use Rattle.station.specs.Offered.{mostFlows, allInRange, offered}
 use Rattle.station.specs.Facts.{Periodic}
 use Rattle.station.proofs.FlowLaws.{InRange, and-true, periodic}
-use Rattle.station.proofs.Facts.{figure-within-length, busy-length-is}
+use Rattle.station.proofs.Facts.{busy-length-to, figure-within-length-to}
 use Rattle.rows.specs.Links.{sendMost, sendSpread, muxWait, hopMost, hopSpread}
 use Rattle.rows.specs.Queues.{queueFlow, queueFlows, queueLength, queueFigure}
 use Rattle.rows.specs.Ports.{hopFlow, portFlows, portLength, portFigure, rootJitter, childJitter, jitterOf, figureOf}
@@ -48,14 +50,14 @@ unfolding offered mostFlows
 taken f l few all = rw (le-leb (length (map f l)) 1024 (omega (arith, length-map l f)), map-in-range f l all)
 
 -- a figure is at most the busy length, and 0 where there is none
-pub figure-limit : (fs : List Flow) → Periodic fs → figure fs (numberOr0 (busyLength fs)) ≤ 125000000
-unfolding figure limit
-figure-limit fs p = go (busyLength fs) refl
+figure-limit : (lim : ℕ) (fs : List Flow) → Periodic fs → figure fs (numberOr0 (busyLengthTo lim fs)) ≤ lim
+unfolding figure
+figure-limit lim fs p = go (busyLengthTo lim fs) refl
   where
-    go : (o : Option ℕ) → busyLength fs ≡ o → figure fs (numberOr0 (busyLength fs)) ≤ 125000000
-    go none e = rw (number-of-none (busyLength fs) e) (greatest-le _ 0 125000000 (λ d l. absurd (omega arith)))
+    go : (o : Option ℕ) → busyLengthTo lim fs ≡ o → figure fs (numberOr0 (busyLengthTo lim fs)) ≤ lim
+    go none e = rw (number-of-none (busyLengthTo lim fs) e) (greatest-le _ 0 lim (λ d l. absurd (omega arith)))
     go (some l) e =
-        rw (number-is (busyLength fs) l e) (omega (arith, figure-within-length fs l p e, busy-length-is fs l .0 e .in-limit))
+        rw (number-is (busyLengthTo lim fs) l e) (omega (arith, figure-within-length-to lim fs l p e, busy-length-to lim fs l .0 e .in-limit))
 
 pub offered-periodic : (fs : List Flow) → offered fs ≡ true → Periodic fs
 unfolding offered
@@ -107,6 +109,10 @@ module _ (net : Network) (ranges : Ranges net) (refs : References net) where
   mux-wait-bound v =
       omega (arith, mux-wait-is net v, sum-without-bound (vlAt net v .system) v (length (net .vls)) (omega arith), ranges .few-vls)
 
+  -- no busy length is longer
+  longest-bound : net .tick .longest ≡ 125000000
+  longest-bound = ap (λ (t : TickRules). t .longest) (ranges .in-force) ∙ longest-is
+
   -- ---- queues
   stream-on : (v k s : ℕ) → List·Memᴰ s (streamsOn net v k) → s < length (net .streams)
   unfolding streamsOn
@@ -137,7 +143,7 @@ module _ (net : Network) (ranges : Ranges net) (refs : References net) where
 
   pub queue-figure-bound : (v k : ℕ) → queueFigure net v k ≤ 125000000
   unfolding queueFigure queueLength
-  queue-figure-bound v k = omega (arith, figure-limit (queueFlows net v k) (offered-periodic (queueFlows net v k) (queue-offered v k)))
+  queue-figure-bound v k = omega (arith, figure-limit (net .tick .longest) (queueFlows net v k) (offered-periodic (queueFlows net v k) (queue-offered v k)), longest-bound)
 
   -- ---- ports
   gap-of-hop : (h : ℕ) → h < length (net .hops) → VlRange (vlAt net (hopAt net h .vl))
@@ -146,8 +152,8 @@ module _ (net : Network) (ranges : Ranges net) (refs : References net) where
   pub port-figure-bound : (jitter : ℕ → ℕ) (p : ℕ) → portFigure net jitter p ≤ 125000000
   unfolding portFigure portLength portFlows hopFlow
   port-figure-bound jitter p =
-      figure-limit (portFlows net jitter p)
-      (map-periodic (hopFlow net jitter) (hopsOn net p) (λ h m. omega (arith, gap-of-hop h (on-port net p h m .0) .gap-least)))
+      let periods = map-periodic (hopFlow net jitter) (hopsOn net p) (λ h m. omega (arith, gap-of-hop h (on-port net p h m .0) .gap-least)) in
+      omega (arith, figure-limit (net .tick .longest) (portFlows net jitter p) periods, longest-bound)
 
   pub figure-bound : (h : ℕ) → figureOf net h ≤ 125000000
   figure-bound h = rw (figure-of-port net h) (port-figure-bound (jitterOf net) (hopAt net h .port))

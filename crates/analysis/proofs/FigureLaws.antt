@@ -9,13 +9,15 @@ use native.Mathlib.Omega.{arith}
 use borrow.Author.Count.{below-more}
 use lib.ListN.{length, getD, set, length-set}
 use lib.Seq.{getD-set-same, getD-set-other}
+use Rattle.frame.specs.Tick.{inForce}
 use Rattle.network.specs.Network.{Network}
 use Rattle.network.specs.ReferenceFacts.{References}
 use Rattle.network.specs.Ranges.{Ranges}
 use Rattle.station.specs.Offered.{offered}
 use Rattle.station.specs.Flat.{flowsIn}
-use Rattle.rows.specs.Ports.{portFlows, portLength, portFigure, jitterOf}
+use Rattle.rows.specs.Ports.{portFlows, portFigure, jitterOf}
 use Rattle.rows.specs.Refusals.{endless}
+use Rattle.rows.proofs.TickLaws.{port-length-is, port-figure-is}
 use Rattle.analysis.specs.declared.flows.Outcome.{Outcome}
 use Rattle.analysis.specs.Computing.{First, Figures, Jitters}
 use Rattle.analysis.specs.Gathering.{Gathered, Found}
@@ -44,14 +46,13 @@ module _ (net : Network) where
     pub port-accepted : Ranges net → References net → (length flows ≡ 3072) × (count ≤ 1024) × (offered (flowsIn flows count) ≡ true)
     port-accepted ranges refs = (all .long, all .few, rw (all .front) (port-offered net ranges refs p))
 
-    module _ (o : Outcome) (found : Found (flowsIn flows count) o) where
+    module _ (rules : net .tick ≡ inForce) (o : Outcome) (found : Found (flowsIn flows count) o) where
       pub found-endless : o .endless ≡ endless net p
-      unfolding endless portLength
-      found-endless = rw (all .front) at (found .endless-is)
+      unfolding endless
+      found-endless = rw (port-length-is net rules (jitterOf net) p) (rw (all .front) at (found .endless-is))
 
       found-figure : o .figure ≡ portFigure net (jitterOf net) p
-      unfolding portFigure portLength
-      found-figure = rw (all .front) at (found .figure-is)
+      found-figure = rw (port-figure-is net rules (jitterOf net) p) (rw (all .front) at (found .figure-is))
 
       pub first-endless :
           (figures jitters : List ℕ) → Figured net p figures jitters → o .endless ≡ true → First (endless net) (length (net .ports)) p × Figures net figures p

@@ -9,12 +9,13 @@ use borrow.Author.Tests.{eq-eqb, ne-eqb}
 use lib.Dec.{eqb}
 use lib.ListN.{length}
 use Rattle.base.specs.Tabulate.{passing, total}
-use Rattle.frame.specs.Tick.{sendsInTime}
+use Rattle.frame.specs.Tick.{inForce, sendsInTime}
 use Rattle.base.proofs.TabulateLaws.{passing-same}
 use Rattle.network.specs.Network.{Network, vlAt}
 use Rattle.rows.specs.Refusals.{sendsLate}
 use Rattle.rows.specs.Links.{sendMost, sendSum, muxWait}
 use Rattle.network.specs.Views.{vlsOf}
+use Rattle.rows.proofs.TickLaws.{late-by-rules}
 use Rattle.analysis.specs.Computing.{sumWithout}
 use Rattle.analysis.proofs.SumLaws.{total-hit, total-miss}
 
@@ -59,6 +60,5 @@ module _ (net : Network) where
       (λ u l. rw (ne-eqb u (length (net .vls)) (λ same. omega arith)) (sym (and-true (eqb (vlAt net u .system) e)))))
 
   -- equation 1, as it is tested
-  pub late-is : (e s : ℕ) (r t : Bool) → s ≡ sendSum net e → r ≡ sendsInTime s → not r ≡ t → sendsLate net e ≡ t
-  unfolding sendsLate
-  late-is e s r t sum told tested = ap (λ (n : ℕ). not (sendsInTime n)) (sym sum) ∙ (ap not (sym told) ∙ tested)
+  pub late-is : net .tick ≡ inForce → (e s : ℕ) (r t : Bool) → s ≡ sendSum net e → r ≡ sendsInTime s → not r ≡ t → sendsLate net e ≡ t
+  late-is rules e s r t sum told tested = late-by-rules net rules e ∙ ap (λ (n : ℕ). not (sendsInTime n)) (sym sum) ∙ (ap not (sym told) ∙ tested)

@@ -3,7 +3,7 @@
 use Prim.Native.Nat.{ℕ, _+_, _-_, _*_, _≤_, _<_}
 use mathlib.Core.Bool.{Bool, true, false, _&&_, not, and-false}
 use mathlib.Core.List.{List}
-use mathlib.Core.Path.{_≡_, sym, _∙_}
+use mathlib.Core.Path.{_≡_, _∙_}
 use native.Mathlib.Omega.{arith}
 use borrow.Author.Count.{below-more}
 use borrow.Author.Tests.{eq-eqb, ne-eqb}
@@ -14,6 +14,7 @@ use Rattle.base.specs.Tests.{isSome}
 use Rattle.base.proofs.LeastLaws.{least-none, least-exists}
 use Rattle.base.proofs.TestLaws.{some-is, none-is}
 use Rattle.frame.specs.Packets.{packets}
+use Rattle.frame.specs.Tick.{inForce}
 use Rattle.network.specs.declared.Vl.{Vl}
 use Rattle.network.specs.declared.Stream.{Stream}
 use Rattle.network.specs.Network.{Network, vlAt, streamAt}
@@ -24,6 +25,7 @@ use Rattle.network.specs.Views.{streamsOn}
 use Rattle.rows.specs.Queues.{queueFlow, queueFlows, queueLength, queueFigure}
 use Rattle.rows.specs.Refusals.{endlessSubLink}
 use Rattle.sheet.specs.declared.Delays.{Delays}
+use Rattle.rows.proofs.TickLaws.{queue-length-is, queue-figure-is}
 use Rattle.analysis.specs.declared.flows.Outcome.{Outcome}
 use Rattle.sheet.specs.Sheet.{delaysIn}
 use Rattle.analysis.specs.Computing.{QueuesOf, Queues}
@@ -66,11 +68,10 @@ module _ (net : Network) (v k : ℕ) where
   sub-link-gathered n flows count all few g = record { long = g .long; few = omega (arith, g .few); front = rw (← all) (g .front) }
 
   -- what the station found of the flows is the queue
-  pub queue-found : (flows : List ℕ) (count : ℕ) (o : Outcome) (gap r : ℕ) → Gathered (queueFlows net v k) flows count → Found (flowsIn flows count) o → gap ≡ vlAt net v .gap
+  pub queue-found : net .tick ≡ inForce → (flows : List ℕ) (count : ℕ) (o : Outcome) (gap r : ℕ) → Gathered (queueFlows net v k) flows count → Found (flowsIn flows count) o → gap ≡ vlAt net v .gap
       → r ≡ o .figure - gap → (o .endless ≡ not (isSome (queueLength net v k))) × (r ≡ queueFigure net v k)
-  unfolding queueLength queueFigure
-  queue-found flows count o gap r g found same e =
-      (found .endless-is ∙ rw (g .front), e ∙ rw (found .figure-is, g .front, same))
+  queue-found rules flows count o gap r g found same e =
+      (rw (queue-length-is net rules v k) (found .endless-is ∙ rw (g .front)), rw (queue-figure-is net rules v k) (e ∙ rw (found .figure-is, g .front, same)))
 
 -- ---- a queue without a busy length
 module _ (net : Network) (v : ℕ) where

@@ -13,6 +13,7 @@ use Rattle.base.specs.Tabulate.{passing}
 use Rattle.base.specs.Tests.{isSome}
 use Rattle.frame.specs.Frame.{protocolOverhead, lineOf, lineBytes}
 use Rattle.frame.specs.Packets.{fullPacket, packets, cut, packetLines}
+use Rattle.frame.specs.Tick.{inForce}
 use Rattle.network.specs.Link.{onLine, lineTicks}
 use Rattle.network.specs.declared.Parent.the-variants.{Root, After}
 use Rattle.network.specs.Network.{Network}
@@ -96,6 +97,7 @@ on-the-way = refl
 -- ---- two VLs for one link, and no port: each hands over a packet in tick 0, and the link takes that which it looks at first
 abbrev pub pair : Network
 pair = record {
+  tick = inForce;
   sendLeast = 0;
   sendGreatest = 0;
   receiveLeast = 0;
@@ -152,6 +154,7 @@ first-1 = refl
 -- ---- one message of 10 bytes over one port, 84 ticks on each link: it is complete in tick 168, and not before
 abbrev pub small : Network
 small = record {
+  tick = inForce;
   sendLeast = 0;
   sendGreatest = 0;
   receiveLeast = 0;
@@ -204,6 +207,7 @@ not-there = refl
 -- ---- one message of 10 bytes: send delay 2, end system to 86, switch 1, port 0 to 171, switch 2, port 1 to 257, receive 3; what lands is what the run says enters
 abbrev pub two : Network
 two = record {
+  tick = inForce;
   sendLeast = 0;
   sendGreatest = 9;
   receiveLeast = 0;
@@ -259,6 +263,7 @@ not-10 p = omega (arith, p .flight-greatest 86 0 (frame 2) (omega arith) (omega 
 -- ---- one VL with two hops without parent: a frame that its end system has sent whole goes to both
 abbrev pub fork : Network
 fork = record {
+  tick = inForce;
   sendLeast = 0;
   sendGreatest = 0;
   receiveLeast = 0;

@@ -22,8 +22,8 @@ use Rattle.rows.specs.Ports.{hopFlow, portFlows, portLength, portFigure, jitter
 use Rattle.rows.specs.Queues.{queueFlow, queueFlows, queueLength}
 use Rattle.rows.proofs.PortLaws.{figure-of-port}
 use Rattle.station.specs.Facts.{Periodic}
-use Rattle.station.specs.Station.{Flow, most, brought, busyLength, figure}
-use Rattle.station.proofs.Facts.{covers-every-span}
+use Rattle.station.specs.Station.{Flow, most, brought, busyLengthTo, figure}
+use Rattle.station.proofs.Facts.{covers-every-span-to}
 use Rattle.machine.specs.Sound.{Sound, Has, Busy}
 use Rattle.machine.proofs.Select.{was-passing}
 use Rattle.machine.proofs.Windows.{queueStation}
@@ -42,9 +42,9 @@ cost-covered f s q ns m h =
     omega (arith, brought-part f 0 s ns m)
 
 -- where there is a busy length, the figure of that length covers every span
-station-covers : (fs : List Flow) → Periodic fs → Has (busyLength fs) → (d : ℕ) → brought fs d ≤ figure fs (numberOr0 (busyLength fs)) + d
-station-covers fs p has d =
-    subst (λ (l : ℕ). brought fs d ≤ figure fs l + d) (sym (number-is (busyLength fs) (has .length) (has .is))) (covers-every-span fs (has .length) p (has .is) d)
+station-covers : (lim : ℕ) (fs : List Flow) → Periodic fs → Has (busyLengthTo lim fs) → (d : ℕ) → brought fs d ≤ figure fs (numberOr0 (busyLengthTo lim fs)) + d
+station-covers lim fs p has d =
+    subst (λ (l : ℕ). brought fs d ≤ figure fs l + d) (sym (number-is (busyLengthTo lim fs) (has .length) (has .is))) (covers-every-span-to lim fs (has .length) p (has .is) d)
 
 none-brought : (f : ℕ → Flow) (q d : ℕ) → brought (map f []) d ≤ q + d
 unfolding brought
@@ -74,13 +74,13 @@ module _ (net : Network) (sound : Sound net) (busy : Busy net) where
   queue-covers v k d = go (streamsOn net v k) refl
     where
       go : (l : List ℕ) → streamsOn net v k ≡ l
-          → brought (map (queueFlow net) (streamsOn net v k)) d ≤ figure (map (queueFlow net) (streamsOn net v k)) (numberOr0 (busyLength (map (queueFlow net) (streamsOn net v k)))) + d
-      go [] e = subst (λ (l : List ℕ). brought (map (queueFlow net) l) d ≤ figure (map (queueFlow net) l) (numberOr0 (busyLength (map (queueFlow net) l))) + d) (sym e)
-          (none-brought (queueFlow net) (figure [] (numberOr0 (busyLength []))) d)
+          → brought (map (queueFlow net) (streamsOn net v k)) d ≤ figure (map (queueFlow net) (streamsOn net v k)) (numberOr0 (busyLengthTo (net .tick .longest) (map (queueFlow net) (streamsOn net v k)))) + d
+      go [] e = subst (λ (l : List ℕ). brought (map (queueFlow net) l) d ≤ figure (map (queueFlow net) l) (numberOr0 (busyLengthTo (net .tick .longest) (map (queueFlow net) l))) + d) (sym e)
+          (none-brought (queueFlow net) (figure [] (numberOr0 (busyLengthTo (net .tick .longest) []))) d)
       go (s ∷ l) e =
           let on = on-sub-link v k s (subst (λ (z : List ℕ). List·Memᴰ s z) (sym e) (List·Memᴰ·head refl)) in
           let has : Has (queueLength net v k) = subst (λ (z : ℕ). Has (queueLength net v z)) (on .2) (subst (λ (z : ℕ). Has (queueLength net z (streamAt net s .sublink))) (on .1) (busy .queue s (on .0))) in
-          station-covers (queueFlows net v k) (queue-periodic v k) has d
+          station-covers (net .tick .longest) (queueFlows net v k) (queue-periodic v k) has d
 
   -- ---- ports
   port-periodic : (p : ℕ) → Periodic (portFlows net (jitterOf net) p)
@@ -92,13 +92,13 @@ module _ (net : Network) (sound : Sound net) (busy : Busy net) where
   unfolding portFlows portFigure portLength
   port-covers p d = go (hopsOn net p) refl
     where
-      go : (l : List ℕ) → hopsOn net p ≡ l → brought (map (hopFlow net (jitterOf net)) (hopsOn net p)) d ≤ figure (map (hopFlow net (jitterOf net)) (hopsOn net p)) (numberOr0 (busyLength (map (hopFlow net (jitterOf net)) (hopsOn net p)))) + d
-      go [] e = subst (λ (l : List ℕ). brought (map (hopFlow net (jitterOf net)) l) d ≤ figure (map (hopFlow net (jitterOf net)) l) (numberOr0 (busyLength (map (hopFlow net (jitterOf net)) l))) + d) (sym e)
-          (none-brought (hopFlow net (jitterOf net)) (figure [] (numberOr0 (busyLength []))) d)
+      go : (l : List ℕ) → hopsOn net p ≡ l → brought (map (hopFlow net (jitterOf net)) (hopsOn net p)) d ≤ figure (map (hopFlow net (jitterOf net)) (hopsOn net p)) (numberOr0 (busyLengthTo (net .tick .longest) (map (hopFlow net (jitterOf net)) (hopsOn net p)))) + d
+      go [] e = subst (λ (l : List ℕ). brought (map (hopFlow net (jitterOf net)) l) d ≤ figure (map (hopFlow net (jitterOf net)) l) (numberOr0 (busyLengthTo (net .tick .longest) (map (hopFlow net (jitterOf net)) l))) + d) (sym e)
+          (none-brought (hopFlow net (jitterOf net)) (figure [] (numberOr0 (busyLengthTo (net .tick .longest) []))) d)
       go (h ∷ l) e =
           let on = on-port net p h (subst (λ (z : List ℕ). List·Memᴰ h z) (sym e) (List·Memᴰ·head refl)) in
           let has : Has (portLength net (jitterOf net) p) = subst (λ (z : ℕ). Has (portLength net (jitterOf net) z)) (on .1) (busy .port h (on .0)) in
-          station-covers (portFlows net (jitterOf net) p) (port-periodic p) has d
+          station-covers (net .tick .longest) (portFlows net (jitterOf net) p) (port-periodic p) has d
 
   -- a hop's figure is at least a least frame of it
   pub figure-least : (h : ℕ) → h < length (net .hops) → hopLine net h ≤ figureOf net h

@@ -13,8 +13,8 @@ use Rattle.network.specs.Network.{Network, vlAt, streamAt}
 use Rattle.network.specs.Views.{streamsOn}
 use Rattle.rows.specs.Queues.{queueFlow, queueFlows, queueLength}
 use Rattle.rows.specs.Rows.{worst, best}
-use Rattle.station.specs.Station.{brought, busyLength, figure}
-use Rattle.station.proofs.Facts.{is-attained}
+use Rattle.station.specs.Station.{brought, figure}
+use Rattle.station.proofs.Facts.{is-attained-to}
 use Rattle.machine.specs.Sound.{Sound, Has, Busy}
 use Rattle.machine.specs.Runs.{Complete, Reaches}
 use Rattle.machine.specs.OverNetworks.{No-later, No-earlier, No-longer, Reached, Nothing-cut-off, Demand-3-over-networks}
@@ -60,10 +60,10 @@ module _ (net : Network) (sound : Sound net) (busy : Busy net) where
       let v = streamAt net s .vl in
       let hv = sound .references .stream-vl s h in
       let sub : streamAt net s .sublink ≡ 0 = omega (arith, sound .references .stream-sub-link s h) in
-      let has : Has (busyLength (queueFlows net v 0)) = subst (λ (k : ℕ). Has (busyLength (queueFlows net v k))) sub (busy .queue s h) in
-      let a = is-attained (queueFlows net v 0) (has .length) (has .is) in
+      let has : Has (queueLength net v 0) = subst (λ (k : ℕ). Has (queueLength net v k)) sub (busy .queue s h) in
+      let a = is-attained-to (net .tick .longest) (queueFlows net v 0) (has .length) (has .is) in
       let at : brought (queueFlows net v 0) (a .span) ≡ queueStation net v 0 + a .span =
-      a .attains ∙ ap (λ (l : ℕ). figure (queueFlows net v 0) l + a .span) (sym (number-is (busyLength (queueFlows net v 0)) (has .length) (has .is))) in
+      a .attains ∙ ap (λ (l : ℕ). figure (queueFlows net v 0) l + a .span) (sym (number-is (queueLength net v 0) (has .length) (has .is))) in
       let aim : Aim net = record { vl = v; row = hv; one-sub-link = one; stream = s; stream-row = h; on-vl = refl; span = a .span; attains = at } in
       subst (λ (z : ℕ). Reaches net s z) (queue-is net sound busy s) (reached net sound win aim)
 

@@ -15,6 +15,7 @@ use Rattle.base.specs.Tests.{isSome, numberOr0, firstFailing}
 use Rattle.base.proofs.Every.{at}
 use Rattle.frame.specs.Frame.{lineOverhead, protocolOverhead, leastFrame, leastLine, largestLine}
 use Rattle.frame.specs.Packets.{fullPacket, packets}
+use Rattle.frame.specs.Tick.{inForce}
 use Rattle.network.specs.declared.Parent.the-variants.{Root}
 use Rattle.network.specs.Network.{Network, systemAt, vlAt, streamAt, portAt, hopAt}
 use Rattle.network.specs.References.{namesSystem, hasHop, streamNamesVl, namesSubLink, hopNamesVl, namesPort, ofParent, parentEarlier, parentSameVl, parentLowerPort, twinOf, noEarlierTwin, routeLonger, notTooDeep, vlTests, streamTests, hopTests, refFault, badReference}
@@ -24,10 +25,12 @@ use Rattle.network.specs.ReferenceFacts.{References}
 use Rattle.network.specs.References as References
 use Rattle.network.proofs.ReferenceLaws.{references-exactly}
 use Rattle.rows.specs.Links.{sendMost, sendLine, sendSpread, sendSum, muxWait, hopMost, hopLine, hopSpread}
-use Rattle.rows.specs.Ports.{hopFlow, portFlows, portLength, portFigure, hopFigure, rootJitter, jitterBelow, jitterOf, figureOf}
-use Rattle.rows.specs.Queues.{queueFlow, queueFlows, queueLength, queueFigure}
+use Rattle.rows.specs.Ports.{hopFlow, portFlows, portLength, rootJitter, jitterBelow, jitterOf, figureOf}
+use Rattle.rows.specs.Queues.{queueFlow, queueFlows, queueLength}
 use Rattle.rows.specs.Rows.{twoEach, queueOf, worstParts, worst, bestParts, best, rowJitter, rowOf, rowsTo, rowsOf}
 use Rattle.station.specs.Searching.{lastIn}
+use Rattle.rows.proofs.PortLaws.{figure-of-port}
+use Rattle.rows.proofs.TickLaws.{queue-length-is, queue-figure-is, port-length-is, port-figure-is}
 use Rattle.station.specs.Station.{Flow, most, brought, limit, busyLength, figure}
 use Rattle.station.specs.Offered.{inRange, allInRange}
 use Rattle.station.proofs.Computed.{lastOf, improved, climb, descend, computed-length, computed-figure}
@@ -38,6 +41,7 @@ use Rattle.machine.proofs.OverNetworks.{demand-3-over-networks}
 -- "Send delay 500 to 1,000, receive 500 to 500; one 100 Mbit/s end system; VL 0: 1 ms, Lmax 1,518; VL 1: 2 ms, Lmax 516; one sub-link each. Stream 0: VL 0, queuing, M 2,000, least 1,000, T 250,000, J 0. Stream 1: VL 1, sampling, M 469, least 10, T 500,000, J 1,000. One port, 100 Mbit/s, 875 to 1,250; hop 0 VL 0, hop 1 VL 1, no parents."
 abbrev pub whole : Network
 whole = record {
+  tick = inForce;
   sendLeast = 500;
   sendGreatest = 1000;
   receiveLeast = 500;
@@ -104,12 +108,10 @@ figures = (
 )
 
 queue-lengths : (queueLength whole 0 0 ≡ some 25000) × (queueLength whole 1 0 ≡ some 25000)
-unfolding queueLength
-queue-lengths = (ap busyLength (queue-flows .0) ∙ lengths .0, ap busyLength (queue-flows .1) ∙ lengths .1)
+queue-lengths = (queue-length-is whole refl 0 0 ∙ ap busyLength (queue-flows .0) ∙ lengths .0, queue-length-is whole refl 1 0 ∙ ap busyLength (queue-flows .1) ∙ lengths .1)
 
 port-length : portLength whole (jitterOf whole) 0 ≡ some 2074
-unfolding portLength
-port-length = ap busyLength port-flows ∙ lengths .2
+port-length = port-length-is whole refl (jitterOf whole) 0 ∙ ap busyLength port-flows ∙ lengths .2
 
 pub busy : Busy whole
 busy = record { queue = queue; port = port }
@@ -131,17 +133,16 @@ queue-figure fs gs l f e b g =
     ap (λ (z : List Flow). figure z (numberOr0 (busyLength z))) e ∙ ap (λ (o : Option ℕ). figure gs (numberOr0 o)) b ∙ g
 
 queues : (queueOf whole 0 ≡ 12500) × (queueOf whole 1 ≡ 0)
-unfolding queueOf queueFigure queueLength
+unfolding queueOf
 queues = (
-  ap (λ (z : ℕ). z - 12500) (queue-figure (queueFlows whole 0 0) flow-0 25000 25000 (queue-flows .0) (lengths .0) (figures .0)),
-  ap (λ (z : ℕ). z - 25000) (queue-figure (queueFlows whole 1 0) flow-1 25000 25000 (queue-flows .1) (lengths .1) (figures .1)),
+  queue-figure-is whole refl 0 0 ∙ ap (λ (z : ℕ). z - 12500) (queue-figure (queueFlows whole 0 0) flow-0 25000 25000 (queue-flows .0) (lengths .0) (figures .0)),
+  queue-figure-is whole refl 1 0 ∙ ap (λ (z : ℕ). z - 25000) (queue-figure (queueFlows whole 1 0) flow-1 25000 25000 (queue-flows .1) (lengths .1) (figures .1)),
 )
 
 port-figure : (figureOf whole 0 ≡ 2074) × (figureOf whole 1 ≡ 2074)
-unfolding figureOf hopFigure portFigure portLength
 port-figure =
-    let e = queue-figure (portFlows whole (jitterOf whole) 0) flows 2074 2074 port-flows (lengths .2) (figures .2) in
-    (e, e)
+    let e = port-figure-is whole refl (jitterOf whole) 0 ∙ queue-figure (portFlows whole (jitterOf whole) 0) flows 2074 2074 port-flows (lengths .2) (figures .2) in
+    (figure-of-port whole 0 ∙ e, figure-of-port whole 1 ∙ e)
 
 worsts : (worst whole 0 0 ≡ 19398) × (worst whole 1 1 ≡ 6898)
 unfolding worst worstParts twoEach route routeOf muxWait sendMost mostTicks lineTicks onLine largestLine lineOverhead total passing

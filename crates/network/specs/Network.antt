@@ -1,10 +1,11 @@
--- A network as a value: what a packed table says once it is decoded. Every time is in ticks; rows are numbered from 0; there are no bytes
--- here. Its records are those that the code declares (src/). Table, rows and the tick machine all speak of this one. Assumes nothing.
+-- A network as a value: what a packed table says once it is decoded. Every time is in ticks, by the rules of the tick that the network
+-- carries; rows are numbered from 0; there are no bytes here. Its records are those that the code declares (src/). Table, rows and the tick machine all speak of this one. Assumes nothing.
 use Prim.Native.Nat.{ℕ}
 use mathlib.Core.Bool.{false}
 use mathlib.Core.List.{List}
 use mathlib.Core.Option.{Option, none, some}
 use lib.ListN.{getD}
+use Rattle.frame.specs.Tick.{TickRules}
 use Rattle.network.specs.declared.EndSystem.{EndSystem}
 use Rattle.network.specs.declared.Vl.{Vl}
 use Rattle.network.specs.declared.Stream.{Stream}
@@ -19,6 +20,7 @@ parentIn Root = none
 parentIn (After g) = some g
 
 pub record Network : Type 0 where
+  pub tick : TickRules
   pub sendLeast : ℕ
   pub sendGreatest : ℕ
   pub receiveLeast : ℕ

@@ -6,6 +6,7 @@ use mathlib.Core.Option.{some}
 use mathlib.Core.Path.{_≡_}
 use lib.ListN.{length}
 use Rattle.frame.specs.Gap.{gapOf}
+use Rattle.frame.specs.Tick.{inForce}
 use Rattle.network.specs.declared.Vl.{Vl}
 use Rattle.network.specs.declared.Stream.{Stream}
 use Rattle.network.specs.declared.Port.{Port}
@@ -42,6 +43,8 @@ pub record PortRange (port : Port) : Type 0 where
   pub delay-greatest : port .greatest ≤ 1250
 
 pub record Ranges (net : Network) : Type 0 where
+  -- the numbers are of the tick in force
+  pub in-force : net .tick ≡ inForce
   -- "At most 64 end systems, 256 VLs, 512 streams, 128 ports, 1,024 hops"
   pub few-systems : length (net .systems) ≤ 64
   pub few-vls : length (net .vls) ≤ 256

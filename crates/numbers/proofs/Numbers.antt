@@ -15,14 +15,15 @@ use Rattle.base.proofs.LeastLaws.{least-none}
 use Rattle.frame.specs.Frame.{lineOf, lineOverhead, protocolOverhead, leastFrame, greatestFrame, largestLine}
 use Rattle.frame.specs.Packets.{fullPacket, packets}
 use Rattle.frame.specs.Offered.{greatestMessage, packetsOf}
-use Rattle.frame.specs.Tick.{perByte, sendBase, sendLimit, sendsInTime}
+use Rattle.frame.specs.Tick.{perByte, sendBase, sendLimit, inTime}
 use Rattle.network.specs.declared.Stream.{Stream}
 use Rattle.network.specs.Link.{onLine, lineTicks, mostTicks}
 use Rattle.network.specs.Views.{hopsOn, vlsOf, streamsOn}
 use Rattle.rows.specs.Links.{sendMost, sendSum, hopMost}
-use Rattle.rows.specs.Queues.{queueFlow, queueFlows, queueLength, queueFigure}
-use Rattle.rows.specs.Ports.{hopFlow, portFlows, portLength, portFigure}
+use Rattle.rows.specs.Queues.{queueFlow, queueFlows, queueLength}
+use Rattle.rows.specs.Ports.{hopFlow, portFlows}
 use Rattle.rows.specs.Refusals.{sendsLate, lateSystem, endlessSubLink, endlessVl}
+use Rattle.rows.proofs.TickLaws.{queue-length-is, queue-figure-is, port-length-is, port-figure-is}
 use Rattle.station.specs.Answer.{said}
 use Rattle.station.specs.Station.{Flow, most, brought, limit, busyLength, figure}
 use Rattle.station.specs.Offered.{mostFlows, inRange, allInRange, offered, stationSays}
@@ -43,31 +44,31 @@ module _ (fs : List Flow) (ok : offered fs ≡ true) where
     queue-served :
         (n : ℕ) (streams : List Stream) → n ≤ 2 → queueFlows (queueNet n streams) 0 0 ≡ fs → queueFlows (queueNet n streams) 0 1 ≡ []
         → queueSays (queueNet n streams) 0 0 ≡ accepted (l ∷ (v - 12500) ∷ [])
-    unfolding queueSays unless endlessVl endlessSubLink isSome numberOr0 queueLength queueFigure leastFrom
-    queue-served n streams few first second = rw (no-endless, first, found .0, found .1)
+    unfolding queueSays unless endlessVl endlessSubLink isSome numberOr0 leastFrom
+    queue-served n streams few first second = rw (no-endless, queue-figure-is (queueNet n streams) refl 0 0, queue-length-is (queueNet n streams) refl 0 0, first, found .0, found .1)
       where
         has-length : (k : ℕ) → k < n → not (isSome (queueLength (queueNet n streams) 0 k)) ≡ false
-        has-length zero h = rw (first, found .0)
-        has-length (suc zero) h = rw (second, no-flows .0)
+        has-length zero h = rw (queue-length-is (queueNet n streams) refl 0 0, first, found .0)
+        has-length (suc zero) h = rw (queue-length-is (queueNet n streams) refl 0 1, second, no-flows .0)
         has-length (suc (suc k)) h = absurd (omega arith)
 
         no-endless : leastFrom (λ k. not (isSome (queueLength (queueNet n streams) 0 k))) 0 n ≡ none
         no-endless = least-none _ 0 n (λ k a b. has-length k (omega arith))
 
     port-served : (jitter : ℕ → ℕ) → portFlows portNet jitter 0 ≡ fs → portSays portNet jitter 0 ≡ accepted (l ∷ v ∷ [])
-    unfolding portSays portFigure portLength numberOr0
-    port-served jitter flows = rw (portSays, flows, found .0) (rw (flows, found .0, found .1))
+    unfolding portSays numberOr0
+    port-served jitter flows = rw (portSays, port-length-is portNet refl jitter 0, flows, found .0) (rw (port-figure-is portNet refl jitter 0, flows, found .0, found .1))
 
   queue-refused : stationSays fs ≡ refused 10 (0 ∷ 0 ∷ []) → (streams : List Stream) → queueFlows (queueNet 1 streams) 0 0 ≡ fs → queueSays (queueNet 1 streams) 0 0 ≡ refusedAt 9 2 0
-  unfolding queueSays unless endlessVl endlessSubLink leastFrom isSome queueLength said
-  queue-refused e streams flows = rw (endlessVl, endlessSubLink, leastFrom, flows, endless-was fs ok (sym e))
+  unfolding queueSays unless endlessVl endlessSubLink leastFrom isSome said
+  queue-refused e streams flows = rw (endlessVl, endlessSubLink, leastFrom, queue-length-is (queueNet 1 streams) refl 0 0, flows, endless-was fs ok (sym e))
 
 -- ---- the list
 abbrev flow : ℕ → ℕ → ℕ → Flow
 flow t j c = record { period = t; jitter = j; cost = c }
 
 pub numbers-hold : Numbers-hold
-unfolding numbers ruled up lineOf protocolOverhead leastFrame greatestFrame fullPacket packets greatestMessage packetsOf offered most brought limit mostFlows inRange allInRange lastOf lastIn improved climb descend queueFlows queueFlow streamsOn passing portFlows hopFlow hopsOn hopMost mostTicks lineTicks onLine largestLine lineOverhead perByte tabulate sendSays unless lateSystem leastFrom sendsLate sendsInTime sendBase sendLimit sendSum sendMost vlsOf total
+unfolding numbers ruled up lineOf protocolOverhead leastFrame greatestFrame fullPacket packets greatestMessage packetsOf offered most brought limit mostFlows inRange allInRange lastOf lastIn improved climb descend queueFlows queueFlow streamsOn passing portFlows hopFlow hopsOn hopMost mostTicks lineTicks onLine largestLine lineOverhead perByte tabulate sendSays unless lateSystem leastFrom sendsLate inTime sendBase sendLimit sendSum sendMost vlsOf total
 numbers-hold = rw (
   -- 3
   queue-served (flow 50000 0 37500 ∷ []) refl (computed-served _ refl refl 9 37499 (record { figure = 37500; span = 0 }) refl refl) 1 (stream 3 50000 0 ∷ []) (omega arith) refl refl,

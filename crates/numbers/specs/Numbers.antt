@@ -13,7 +13,7 @@ use Rattle.frame.specs.declared.Speed.the-variants.{Mbit100}
 use Rattle.frame.specs.Frame.{lineOf}
 use Rattle.frame.specs.Packets.{fullPacket}
 use Rattle.frame.specs.Offered.{packetsOf}
-use Rattle.frame.specs.Tick.{perByte}
+use Rattle.frame.specs.Tick.{perByte, inForce}
 use Rattle.network.specs.declared.Stream.{Stream}
 use Rattle.network.specs.declared.Parent.the-variants.{Root}
 use Rattle.network.specs.Network.{Network}
@@ -26,6 +26,7 @@ use Rattle.rows.specs.Refusals.{lateSystem, endlessVl}
 -- one end system and one port, both at 100 Mbit/s, every delay 0; a VL for each Lmax, of BAG 12,500 with n sub-links and one hop; these streams
 abbrev pub small : ℕ → List ℕ → List Stream → Network
 small n lmaxes streams = record {
+  tick = inForce;
   sendLeast = 0;
   sendGreatest = 0;
   receiveLeast = 0;

@@ -15,13 +15,17 @@ use Rattle.base.specs.Tests.{isSome, numberOr0}
 use Rattle.base.proofs.LeastLaws.{least-is, least-none, least-was, none-was, least-exists}
 use Rattle.base.proofs.TabulateLaws.{passing-member}
 use Rattle.base.proofs.TestLaws.{some-is, none-is, is-some-was, is-none-was}
+use Rattle.frame.specs.Tick.{TickRules}
+use Rattle.frame.proofs.TickLaws.{longest-is}
 use Rattle.network.specs.Network.{Network, vlAt, streamAt, hopAt, parentAt}
 use Rattle.network.specs.ReferenceFacts.{References}
-use Rattle.station.specs.Station.{Flow, load, limit, busyLength}
-use Rattle.station.proofs.Facts.{no-busy-length-is}
+use Rattle.station.specs.Station.{Flow, load, busyLengthTo}
+use Rattle.station.proofs.Facts.{no-busy-length-to}
 use Rattle.table.specs.declared.Answer.{Answer}
 use Rattle.table.specs.Answers.{answer, accepted, firstGiven}
 use Rattle.table.specs.Read.{networkIn}
+use Rattle.table.specs.RoundTrip.{unpacked}
+use Rattle.table.proofs.DecodedLaws.{rules-are}
 use Rattle.table.proofs.ReadLaws.{read-references}
 use Rattle.network.specs.Views.{streamsOn}
 use Rattle.rows.specs.Queues.{queueFlows, queueLength}
@@ -33,14 +37,13 @@ use Rattle.order.specs.Exact.{Passed, NoLength, EndlessQueue, FromLower,
 use Rattle.answers.proofs.AcceptedLaws.{reader-accepts}
 
 -- ---- flows without a busy length
-endless-flows : (fs : List Flow) → (not (isSome (busyLength fs)) ≡ true) ↔ NoLength fs
-unfolding limit
-endless-flows fs = (
+endless-flows : (lim : ℕ) → lim ≡ 125000000 → (fs : List Flow) → (not (isSome (busyLengthTo lim fs)) ≡ true) ↔ NoLength fs
+endless-flows lim is fs = (
   λ e. record {
     fails = λ l low high.
-        no-busy-length-is fs .0 (is-none-was (busyLength fs) (not-true (isSome (busyLength fs)) e)) l low (omega arith);
+        no-busy-length-to lim fs .0 (is-none-was (busyLengthTo lim fs) (not-true (isSome (busyLengthTo lim fs)) e)) l low (omega arith);
   },
-  λ n. ap not (none-is (busyLength fs) (no-busy-length-is fs .1 (λ l low high. n .fails l low (omega arith)))),
+  λ n. ap not (none-is (busyLengthTo lim fs) (no-busy-length-to lim fs .1 (λ l low high. n .fails l low (omega arith)))),
 )
 
 -- ---- the sub-links of a VL
@@ -73,14 +76,14 @@ module _ (net : Network) (v : ℕ) where
             no-length = none-serves;
           }
 
-  endless-queue : (isSome (endlessSubLink net v) ≡ true) ↔ EndlessQueue net v
+  endless-queue : net .tick .longest ≡ 125000000 → (isSome (endlessSubLink net v) ≡ true) ↔ EndlessQueue net v
   unfolding endlessSubLink queueLength
-  endless-queue = (
+  endless-queue longest = (
     λ e. (let k = numberOr0 (endlessSubLink net v) in
         let was = least-was (λ k. not (isSome (queueLength net v k))) 0 (vlAt net v .sublinks) k (is-some-was (endlessSubLink net v) e) in
-        endless-has-stream k (omega (arith, was .high)) (endless-flows (queueFlows net v k) .0 (was .passes))),
+        endless-has-stream k (omega (arith, was .high)) (endless-flows (net .tick .longest) longest (queueFlows net v k) .0 (was .passes))),
     λ q. (let there = least-exists (λ k. not (isSome (queueLength net v k))) 0 (vlAt net v .sublinks) (q .sub-link) (omega arith) (omega (arith, q .there))
-        (endless-flows (queueFlows net v (q .sub-link)) .1 (q .no-length)) in
+        (endless-flows (net .tick .longest) longest (queueFlows net v (q .sub-link)) .1 (q .no-length)) in
         some-is (endlessSubLink net v) (there .at) (there .is)),
   )
 
@@ -113,16 +116,16 @@ flows-of net refs p figureAt jitterAt lower = port-flows-same net jitterAt (jitt
             ∙ sym (figure-of-port net g))
             ∙ sym (figures-of net refs .child-is h g l e)
 
-endless-port : (net : Network) → References net → (p : ℕ) → (endless net p ≡ true) ↔ EndlessPort net p
+endless-port : (net : Network) → net .tick .longest ≡ 125000000 → References net → (p : ℕ) → (endless net p ≡ true) ↔ EndlessPort net p
 unfolding endless portLength
-endless-port net refs p = (
+endless-port net longest refs p = (
   λ e. record {
     figureAt = portFigure net (jitterOf net);
     jitterAt = jitterOf net;
     from-lower = jitters-of net refs p;
-    no-length = endless-flows (portFlows net (jitterOf net) p) .0 e;
+    no-length = endless-flows (net .tick .longest) longest (portFlows net (jitterOf net) p) .0 e;
   },
-  λ q. endless-flows (portFlows net (jitterOf net) p) .1
+  λ q. endless-flows (net .tick .longest) longest (portFlows net (jitterOf net) p) .1
       (rw (flows-of net refs p (q .figureAt) (q .jitterAt) (q .from-lower)) at (q .no-length)),
 )
 
@@ -148,23 +151,23 @@ module _ (test : ℕ → Bool) (Is : ℕ → Type 0) (same : (i : ℕ) → (test
   none-of : (leastFrom test 0 n ≡ none) ↔ NoneOf Is n
   none-of = (λ e i h. is-not i (none-was test 0 n i e (omega arith) (omega arith)), λ f. least-none test 0 n (λ i a b. not-so i (f i (omega arith))))
 
-module _ (net : Network) where
+module _ (net : Network) (longest : net .tick .longest ≡ 125000000) where
   first-vl : (v : ℕ) → (endlessVl net ≡ some v) ↔ FirstVl net v
   unfolding endlessVl
-  first-vl = first-of (λ v. isSome (endlessSubLink net v)) (EndlessQueue net) (endless-queue net) (length (net .vls))
+  first-vl = first-of (λ v. isSome (endlessSubLink net v)) (EndlessQueue net) (λ v. endless-queue net v longest) (length (net .vls))
 
   no-vl : (endlessVl net ≡ none) ↔ NoVl net
   unfolding endlessVl
-  no-vl = none-of (λ v. isSome (endlessSubLink net v)) (EndlessQueue net) (endless-queue net) (length (net .vls))
+  no-vl = none-of (λ v. isSome (endlessSubLink net v)) (EndlessQueue net) (λ v. endless-queue net v longest) (length (net .vls))
 
   module _ (refs : References net) where
     first-port : (p : ℕ) → (endlessPort net ≡ some p) ↔ FirstPort net p
     unfolding endlessPort
-    first-port = first-of (endless net) (EndlessPort net) (endless-port net refs) (length (net .ports))
+    first-port = first-of (endless net) (EndlessPort net) (endless-port net longest refs) (length (net .ports))
 
     no-port : (endlessPort net ≡ none) ↔ NoPort net
     unfolding endlessPort
-    no-port = none-of (endless net) (EndlessPort net) (endless-port net refs) (length (net .ports))
+    no-port = none-of (endless net) (EndlessPort net) (endless-port net longest refs) (length (net .ports))
 
 -- ---- 9 and 10 by the rows that they are given at
 abbrev last : Option ℕ → Option ℕ → Answer
@@ -212,22 +215,27 @@ jitters-exist bytes room passed = jitters-of (networkIn bytes) (read-references 
 pub one-list-of-flows : One-list-of-flows
 one-list-of-flows bytes room passed = flows-of (networkIn bytes) (read-references bytes (passed .read))
 
+-- 01's limit: its tick is in force
+longest-in : (bytes : List ℕ) → networkIn bytes .tick .longest ≡ 125000000
+unfolding networkIn
+longest-in bytes = ap (λ (t : TickRules). t .longest) (rules-are (unpacked bytes)) ∙ longest-is
+
 pub exact-9 : Exact-9
 exact-9 bytes room v passed =
     let net = networkIn bytes in
-    rw (behind-8 bytes room passed) (Iff·trans (last-9 (endlessVl net) (endlessPort net) v) (first-vl net v))
+    rw (behind-8 bytes room passed) (Iff·trans (last-9 (endlessVl net) (endlessPort net) v) (first-vl net (longest-in bytes) v))
 
 pub exact-10 : Exact-10
 exact-10 bytes room p passed =
     let net = networkIn bytes in
     let refs = read-references bytes (passed .read) in
-    rw (behind-8 bytes room passed) (Iff·trans (last-10 (endlessVl net) (endlessPort net) p) (Iff·and (no-vl net) (first-port net refs p)))
+    rw (behind-8 bytes room passed) (Iff·trans (last-10 (endlessVl net) (endlessPort net) p) (Iff·and (no-vl net (longest-in bytes)) (first-port net (longest-in bytes) refs p)))
 
 pub exact-accepted : Exact-accepted
 exact-accepted bytes room passed =
     let net = networkIn bytes in
     let refs = read-references bytes (passed .read) in
-    rw (behind-8 bytes room passed) (Iff·trans (last-accepted (endlessVl net) (endlessPort net)) (Iff·and (no-vl net) (no-port net refs)))
+    rw (behind-8 bytes room passed) (Iff·trans (last-accepted (endlessVl net) (endlessPort net)) (Iff·and (no-vl net (longest-in bytes)) (no-port net (longest-in bytes) refs)))
 
 pub exact-three : Exact-three
 unfolding firstGiven refusedAt

@@ -5,14 +5,14 @@ use mathlib.Core.Bool.{false, not}
 use mathlib.Core.List.{List}
 use mathlib.Core.Logic.{⊎-elim}
 use mathlib.Core.Option.{Option, none}
-use mathlib.Core.Path.{_≡_}
+use mathlib.Core.Path.{_≡_, sym, _∙_}
 use native.Mathlib.Omega.{arith}
 use borrow.Author.Tests.{not-false}
 use lib.ListN.{length}
 use Rattle.base.specs.Tests.{isSome, numberOr0}
 use Rattle.base.proofs.LeastLaws.{none-was}
 use Rattle.base.proofs.TestLaws.{no-row-was, is-some-was}
-use Rattle.frame.specs.Tick.{sendsInTime}
+use Rattle.frame.specs.Tick.{inForce, sendsInTime}
 use Rattle.frame.proofs.TickLaws.{sends-in-time-was}
 use Rattle.network.specs.Network.{Network, systemAt, vlAt, streamAt, portAt, hopAt}
 use Rattle.network.specs.Ranges.{SpeedRange, Ranges}
@@ -23,6 +23,7 @@ use Rattle.rows.specs.Links.{sendSum}
 use Rattle.rows.specs.Queues.{queueLength}
 use Rattle.rows.specs.Ports.{portLength, jitterOf}
 use Rattle.rows.specs.Refusals.{sendsLate, lateSystem, endlessSubLink, endlessVl, endless, endlessPort}
+use Rattle.rows.proofs.TickLaws.{late-by-rules}
 use Rattle.machine.specs.Sound.{Sound, Has, Busy}
 use Rattle.answers.proofs.AcceptedLaws.{Accepts}
 
@@ -36,11 +37,11 @@ has o e = record { length = numberOr0 o; is = is-some-was o (not-false (isSome o
 
 module _ (net : Network) where
   -- ---- 7
-  in-time : lateSystem net ≡ none → (e : ℕ) → e < length (net .systems) → sendSum net e ≤ 5750
-  unfolding lateSystem sendsLate
-  in-time none7 e h =
+  in-time : net .tick ≡ inForce → lateSystem net ≡ none → (e : ℕ) → e < length (net .systems) → sendSum net e ≤ 5750
+  unfolding lateSystem
+  in-time rules none7 e h =
       sends-in-time-was (sendSum net e)
-      (not-false (sendsInTime (sendSum net e)) (none-was (sendsLate net) 0 (length (net .systems)) e none7 (omega arith) (omega arith)))
+      (not-false (sendsInTime (sendSum net e)) (sym (late-by-rules net rules e) ∙ none-was (sendsLate net) 0 (length (net .systems)) e none7 (omega arith) (omega arith)))
 
   sound : Ranges net → References net → lateSystem net ≡ none → Sound net
   sound ranges refs none7 = record {
@@ -56,7 +57,7 @@ module _ (net : Network) where
     period = λ s h. omega (arith, ranges .stream s h .period-least);
     port-speed = λ p h. takes-time (portAt net p .perbyte) (ranges .port p h .per-byte);
     port-delay = λ p h. ranges .port p h .delay-least;
-    sends-in-a-gap = λ v h. omega (arith, in-time none7 (vlAt net v .system) (refs .vl-system v h), ranges .vl v h .gap-least);
+    sends-in-a-gap = λ v h. omega (arith, in-time (ranges .in-force) none7 (vlAt net v .system) (refs .vl-system v h), ranges .vl v h .gap-least);
   }
 
   -- ---- 9 and 10

@@ -17,7 +17,7 @@ use Rattle.base.proofs.TestLaws.{no-row, some-is}
 use Rattle.frame.specs.Frame.{lineOverhead, protocolOverhead, largestLine}
 use Rattle.frame.specs.Gap.{msOf}
 use Rattle.frame.specs.Packets.{fullPacket, packets}
-use Rattle.frame.specs.Tick.{perMs, perByte, sendBase, sendLimit, sendsInTime}
+use Rattle.frame.specs.Tick.{perMs, perByte, perUnit, sendBase, sendLimit, inTime}
 use Rattle.bits.specs.Bits.{digit, bitAt, fieldAt}
 use Rattle.bits.specs.Rows.{readAll}
 use Rattle.layout.specs.Layout.{header, endSystem, vl, stream, port, hop, layout, orders, widths, size}
@@ -31,7 +31,7 @@ use Rattle.table.specs.Answers.{accepted, firstGiven}
 use Rattle.table.specs.Sections.{headerRow, rows, from, row, recordOf, records, lent}
 use Rattle.table.specs.Unpack.{delaysOf, answer1, answer2, answer3, badRow, badSection, answer4}
 use Rattle.table.specs.Write.{listFor, recordsIn}
-use Rattle.table.specs.Decoded.{numberAt, ticksAt, parentOf, systemIn, vlIn, streamIn, portIn, hopIn, networkOf}
+use Rattle.table.specs.Decoded.{numberAt, ticksAt, parentOf, systemIn, vlIn, streamIn, portIn, hopIn, networkAt}
 use Rattle.table.specs.RoundTrip.{unpacked}
 use Rattle.table.specs.Read.{networkIn, badRefSection, answer5, answer6}
 use Rattle.rows.specs.Links.{sendMost, sendSum}
@@ -53,7 +53,7 @@ use Rattle.order.proofs.Demand3.{demand-3}
 
 -- ---- the bytes: they read to 01's network
 pub network-is : networkIn table ≡ whole
-unfolding networkIn networkOf systemIn vlIn streamIn portIn hopIn numberAt ticksAt parentOf recordsIn listFor tabulate perMs perByte unpacked delaysOf records recordOf row from rows headerRow rowAt rowRoom readAll fieldAt bitAt digit widths layout size header endSystem vl stream port hop total converted convert meaning listed numberOr0 msOf
+unfolding networkIn networkAt systemIn vlIn streamIn portIn hopIn numberAt ticksAt parentOf recordsIn listFor tabulate perMs perByte perUnit unpacked delaysOf records recordOf row from rows headerRow rowAt rowRoom readAll fieldAt bitAt digit widths layout size header endSystem vl stream port hop total converted convert meaning listed numberOr0 msOf
 network-is = refl
 
 none-1 : answer1 table ≡ none
@@ -90,7 +90,7 @@ unfolding answer6
 none-6 = rw (network-is, samples-good, answer6)
 
 in-time : lateSystem whole ≡ none
-unfolding lateSystem sendsLate sendsInTime sendBase sendLimit sendSum vlsOf sendMost mostTicks lineTicks onLine largestLine lineOverhead total passing leastFrom
+unfolding lateSystem sendsLate inTime sendBase sendLimit sendSum vlsOf sendMost mostTicks lineTicks onLine largestLine lineOverhead total passing leastFrom
 in-time = refl
 
 none-7 : answer7 (networkIn table) ≡ none

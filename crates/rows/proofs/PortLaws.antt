@@ -12,7 +12,7 @@ use Rattle.network.specs.Network.{Network, vlAt, hopAt, parentAt}
 use Rattle.network.specs.Views.{hopsOn}
 use Rattle.network.specs.ReferenceFacts.{References}
 use Rattle.network.proofs.PortLaws.{on-port}
-use Rattle.station.specs.Station.{Flow, busyLength, figure}
+use Rattle.station.specs.Station.{Flow, busyLengthTo, figure}
 use Rattle.rows.specs.Links.{hopMost}
 use Rattle.rows.specs.Ports.{hopFlow, portFlows, portLength, portFigure, hopFigure, rootJitter, childJitter, Figures, jitterBelow, jitterOf, figureOf}
 
@@ -31,7 +31,7 @@ module _ (net : Network) where
 
   pub port-figure-same : (i j : ℕ → ℕ) (p : ℕ) → ((h : ℕ) → h < length (net .hops) → hopAt net h .port ≡ p → i h ≡ j h) → portFigure net i p ≡ portFigure net j p
   unfolding portFigure portLength
-  port-figure-same i j p same = ap (λ (fs : List Flow). figure fs (numberOr0 (busyLength fs))) (port-flows-same i j p same)
+  port-figure-same i j p same = ap (λ (fs : List Flow). figure fs (numberOr0 (busyLengthTo (net .tick .longest) fs))) (port-flows-same i j p same)
 
   -- the figure of a hop is its port's
   pub hop-figure-is : (jitter : ℕ → ℕ) (h : ℕ) → hopFigure net jitter h ≡ portFigure net jitter (hopAt net h .port)

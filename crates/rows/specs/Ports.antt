@@ -8,7 +8,7 @@ use lib.ListN.{length}
 use Rattle.base.specs.Tests.{numberOr0}
 use Rattle.network.specs.Network.{Network, vlAt, hopAt, parentAt}
 use Rattle.network.specs.Views.{hopsOn}
-use Rattle.station.specs.Station.{Flow, busyLength, figure}
+use Rattle.station.specs.Station.{Flow, busyLengthTo, figure}
 use Rattle.rows.specs.Links.{sendSpread, muxWait, hopMost, hopLine, hopSpread}
 
 -- the flow of a hop, by the jitters of the hops
@@ -19,7 +19,7 @@ unfoldable pub portFlows : Network → (ℕ → ℕ) → ℕ → List Flow
 portFlows net jitter p = map (hopFlow net jitter) (hopsOn net p)
 
 unfoldable pub portLength : Network → (ℕ → ℕ) → ℕ → Option ℕ
-portLength net jitter p = busyLength (portFlows net jitter p)
+portLength net jitter p = busyLengthTo (net .tick .longest) (portFlows net jitter p)
 
 unfoldable pub portFigure : Network → (ℕ → ℕ) → ℕ → ℕ
 portFigure net jitter p = figure (portFlows net jitter p) (numberOr0 (portLength net jitter p))

@@ -7,7 +7,7 @@ use Rattle.base.specs.Tests.{numberOr0}
 use Rattle.frame.specs.Packets.{packets}
 use Rattle.network.specs.Network.{Network, vlAt, streamAt}
 use Rattle.network.specs.Views.{streamsOn}
-use Rattle.station.specs.Station.{Flow, busyLength, figure}
+use Rattle.station.specs.Station.{Flow, busyLengthTo, figure}
 
 -- "J raised by (greatest − least send delay), C = p × n × BAG"
 unfoldable pub queueFlow : Network → ℕ → Flow
@@ -24,7 +24,7 @@ queueFlows net v k = map (queueFlow net) (streamsOn net v k)
 
 -- the queue's busy length, if it has one
 unfoldable pub queueLength : Network → ℕ → ℕ → Option ℕ
-queueLength net v k = busyLength (queueFlows net v k)
+queueLength net v k = busyLengthTo (net .tick .longest) (queueFlows net v k)
 
 -- "the station figure less one BAG"
 unfoldable pub queueFigure : Network → ℕ → ℕ → ℕ

@@ -7,7 +7,7 @@ use lib.Dec.{ltb}
 use lib.ListN.{length}
 use Rattle.base.specs.Least.{leastFrom}
 use Rattle.base.specs.Tests.{isSome}
-use Rattle.frame.specs.Tick.{sendsInTime}
+use Rattle.frame.specs.Tick.{inTime}
 use Rattle.network.specs.Network.{Network, vlAt}
 use Rattle.rows.specs.Links.{sendSum}
 use Rattle.rows.specs.Queues.{queueLength}
@@ -16,7 +16,7 @@ use Rattle.rows.specs.Rows.{rowsOf}
 
 -- 7: "500 + the sum of (20 + Lmax) × ticks per byte over an end system's VLs exceeds 6,250 (equation 1)"
 unfoldable pub sendsLate : Network → ℕ → Bool
-sendsLate net e = not (sendsInTime (sendSum net e))
+sendsLate net e = not (inTime (net .tick) (sendSum net e))
 
 unfoldable pub lateSystem : Network → Option ℕ
 lateSystem net = leastFrom (sendsLate net) 0 (length (net .systems))

@@ -1,29 +1,27 @@
 -- The sheet of a table's lists: each block is as long as its section's capacity, so that it stands at its place; and the network on it is the one that the lists describe.
 -- Assumes nothing.
-use Prim.Native.Nat.{ℕ, zero, suc, _+_, _*_, _%_, _≤_, _<_, min}
+use Prim.Native.Nat.{ℕ, zero, suc, _+_, _*_, _%_, _≤_, _<_}
 use mathlib.Core.List.{List, [], _∷_, _++_}
-use mathlib.Core.Path.{_≡_, refl, sym, ap, ap₂, _∙_}
+use mathlib.Core.Path.{_≡_, refl, sym, ap, _∙_}
 use native.Mathlib.Decide.{decLt}
-use native.Mathlib.Nat.{mul-le-mul-right, le-of-suc-le-suc}
+use native.Mathlib.Nat.{mul-le-mul-right}
 use native.Mathlib.Omega.{arith}
 use lib.Dec.{eqb}
 use lib.ListN.{length, getD, length-append, List·getD-append}
 use Rattle.base.specs.Tabulate.{tabulate}
 use Rattle.base.proofs.TabulateLaws.{tabulate-same}
-use Rattle.frame.specs.Tick.{perMs}
+use Rattle.frame.specs.Tick.{perMs, perUnit, inForce}
 use Rattle.layout.specs.Rows.{listed}
 use Rattle.layout.specs.Sizes.{most, capacity, place}
 use Rattle.layout.proofs.LayoutLaws.{listed-is}
-use Rattle.network.specs.declared.EndSystem.{EndSystem}
-use Rattle.network.specs.declared.Vl.{Vl}
-use Rattle.network.specs.declared.Stream.{Stream}
-use Rattle.network.specs.declared.Port.{Port}
-use Rattle.network.specs.declared.Hop.{Hop}
-use Rattle.table.specs.Sections.{lent}
 use Rattle.table.specs.Write.{Lists, listFor, recordsIn}
-use Rattle.table.specs.Decoded.{numberAt, ticksAt, parentOf, systemIn, vlIn, streamIn, portIn, hopIn, networkOf}
+use Rattle.table.specs.Decoded.{numberAt, ticksAt, parentOf, systemIn, vlIn, streamIn, portIn, hopIn, networkAt, networkOf}
 use Rattle.table.proofs.LentLaws.{length-lent, lent-at}
 use Rattle.sheet.specs.Sheet.{countOn, numberOn, systemOn, vlOn, streamOn, portOn, hopOn, networkOn, block, blocks, sheetOf}
+
+-- the same number of units
+units : {m n : ℕ} → m ≡ n → perUnit * m ≡ perUnit * n
+units e = ap (λ (x : ℕ). perUnit * x) e
 
 -- the number behind a list
 behind : (l r : List ℕ) (j : ℕ) → getD (l ++ r) (length l + j) 0 ≡ getD r j 0
@@ -106,11 +104,11 @@ module _ (ls : Lists) (held : Held ls) where
   number : (s i k m : ℕ) → suc s < 6 → i < recordsIn ls (suc s) → listed (suc s) ≡ m → k < m → numberOn (sheetOf ls) (suc s) i k ≡ numberAt ls (suc s) i k
   number s i k m h l e f = number-on s i k h l (omega (arith, e))
 
-  system-same : (i : ℕ) → i < recordsIn ls 1 → systemOn (sheetOf ls) i ≡ systemIn ls i
+  system-same : (i : ℕ) → i < recordsIn ls 1 → systemOn (sheetOf ls) i ≡ systemIn inForce ls i
   unfolding systemOn systemIn
-  system-same i h = let n0 = ap ticksAt (number 0 i 0 1 (omega arith) h (listed-is 1) (omega arith)) in λ j. record { perbyte = n0 j }
+  system-same i h = let n0 = ap (ticksAt inForce) (number 0 i 0 1 (omega arith) h (listed-is 1) (omega arith)) in λ j. record { perbyte = n0 j }
 
-  vl-same : (i : ℕ) → i < recordsIn ls 2 → vlOn (sheetOf ls) i ≡ vlIn ls i
+  vl-same : (i : ℕ) → i < recordsIn ls 2 → vlOn (sheetOf ls) i ≡ vlIn inForce ls i
   unfolding vlOn vlIn
   vl-same i h =
       let here : (k : ℕ) → k < 4 → numberOn (sheetOf ls) 2 i k ≡ numberAt ls 2 i k = λ k l. number 1 i k 4 (omega arith) h (listed-is 2) l in
@@ -121,7 +119,7 @@ module _ (ls : Lists) (held : Held ls) where
       let n3 = here 3 (omega arith) in
       λ j. record { system = n0 j; gap = n1 j; sublinks = n2 j; lmax = n3 j }
 
-  stream-same : (i : ℕ) → i < recordsIn ls 3 → streamOn (sheetOf ls) i ≡ streamIn ls i
+  stream-same : (i : ℕ) → i < recordsIn ls 3 → streamOn (sheetOf ls) i ≡ streamIn inForce ls i
   unfolding streamOn streamIn
   stream-same i h =
       let here : (k : ℕ) → k < 7 → numberOn (sheetOf ls) 3 i k ≡ numberAt ls 3 i k = λ k l. number 2 i k 7 (omega arith) h (listed-is 3) l in
@@ -130,17 +128,17 @@ module _ (ls : Lists) (held : Held ls) where
       let n2 = ap (λ (n : ℕ). eqb n 1) (here 2 (omega arith)) in
       let n3 = here 3 (omega arith) in
       let n4 = here 4 (omega arith) in
-      let n5 = here 5 (omega arith) in
-      let n6 = here 6 (omega arith) in
+      let n5 = units (here 5 (omega arith)) in
+      let n6 = units (here 6 (omega arith)) in
       λ j. record { vl = n0 j; sublink = n1 j; sampling = n2 j; size = n3 j; least = n4 j; period = n5 j; jitter = n6 j }
 
-  port-same : (i : ℕ) → i < recordsIn ls 4 → portOn (sheetOf ls) i ≡ portIn ls i
+  port-same : (i : ℕ) → i < recordsIn ls 4 → portOn (sheetOf ls) i ≡ portIn inForce ls i
   unfolding portOn portIn
   port-same i h =
       let here : (k : ℕ) → k < 3 → numberOn (sheetOf ls) 4 i k ≡ numberAt ls 4 i k = λ k l. number 3 i k 3 (omega arith) h (listed-is 4) l in
-      let n0 = ap ticksAt (here 0 (omega arith)) in
-      let n1 = here 1 (omega arith) in
-      let n2 = here 2 (omega arith) in
+      let n0 = ap (ticksAt inForce) (here 0 (omega arith)) in
+      let n1 = units (here 1 (omega arith)) in
+      let n2 = units (here 2 (omega arith)) in
       λ j. record { perbyte = n0 j; least = n1 j; greatest = n2 j }
 
   hop-same : (i : ℕ) → i < recordsIn ls 5 → hopOn (sheetOf ls) i ≡ hopIn ls i
@@ -154,19 +152,20 @@ module _ (ls : Lists) (held : Held ls) where
 
   -- ---- the network
   pub network-same : networkOn (sheetOf ls) ≡ networkOf ls
-  unfolding networkOn networkOf counts
+  unfolding networkOn networkAt counts
   network-same =
       let sheet = sheetOf ls in
-      let d0 = delay-at 0 (omega arith) in
-      let d1 = delay-at 1 (omega arith) in
-      let d2 = delay-at 2 (omega arith) in
-      let d3 = delay-at 3 (omega arith) in
-      let systems = ap (tabulate (systemOn sheet)) (count-on 0 (omega arith) (count-stored 0 (omega arith))) ∙ tabulate-same (systemOn sheet) (systemIn ls) (recordsIn ls 1) system-same in
-      let vls = ap (tabulate (vlOn sheet)) (count-on 1 (omega arith) (count-stored 1 (omega arith))) ∙ tabulate-same (vlOn sheet) (vlIn ls) (recordsIn ls 2) vl-same in
-      let streams = ap (tabulate (streamOn sheet)) (count-on 2 (omega arith) (count-stored 2 (omega arith))) ∙ tabulate-same (streamOn sheet) (streamIn ls) (recordsIn ls 3) stream-same in
-      let ports = ap (tabulate (portOn sheet)) (count-on 3 (omega arith) (count-stored 3 (omega arith))) ∙ tabulate-same (portOn sheet) (portIn ls) (recordsIn ls 4) port-same in
+      let d0 = units (delay-at 0 (omega arith)) in
+      let d1 = units (delay-at 1 (omega arith)) in
+      let d2 = units (delay-at 2 (omega arith)) in
+      let d3 = units (delay-at 3 (omega arith)) in
+      let systems = ap (tabulate (systemOn sheet)) (count-on 0 (omega arith) (count-stored 0 (omega arith))) ∙ tabulate-same (systemOn sheet) (systemIn inForce ls) (recordsIn ls 1) system-same in
+      let vls = ap (tabulate (vlOn sheet)) (count-on 1 (omega arith) (count-stored 1 (omega arith))) ∙ tabulate-same (vlOn sheet) (vlIn inForce ls) (recordsIn ls 2) vl-same in
+      let streams = ap (tabulate (streamOn sheet)) (count-on 2 (omega arith) (count-stored 2 (omega arith))) ∙ tabulate-same (streamOn sheet) (streamIn inForce ls) (recordsIn ls 3) stream-same in
+      let ports = ap (tabulate (portOn sheet)) (count-on 3 (omega arith) (count-stored 3 (omega arith))) ∙ tabulate-same (portOn sheet) (portIn inForce ls) (recordsIn ls 4) port-same in
       let hops = ap (tabulate (hopOn sheet)) (count-on 4 (omega arith) (count-stored 4 (omega arith))) ∙ tabulate-same (hopOn sheet) (hopIn ls) (recordsIn ls 5) hop-same in
       λ i. record {
+        tick = inForce;
         sendLeast = d0 i;
         sendGreatest = d1 i;
         receiveLeast = d2 i;

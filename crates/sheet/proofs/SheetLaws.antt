@@ -3,13 +3,14 @@
 use Prim.Native.Nat.{ℕ, _+_, _*_, _%_, _≤_, _<_, min}
 use mathlib.Core.Bool.{Bool}
 use mathlib.Core.List.{List}
-use mathlib.Core.Path.{_≡_, sym, ap, ap₂, _∙_}
+use mathlib.Core.Path.{_≡_, refl, sym, ap, ap₂, _∙_}
 use native.Mathlib.Nat.{add-zero}
 use native.Mathlib.Omega.{arith}
 use lib.Dec.{eqb}
 use lib.ListN.{length, getD, List·getD-eq-default}
 use Rattle.base.proofs.TabulateLaws.{length-tabulate, tabulate-at}
-use Rattle.frame.proofs.TickLaws.{per-ms-is}
+use Rattle.frame.specs.Tick.{perUnit, inForce}
+use Rattle.frame.proofs.TickLaws.{per-ms-is, per-unit-is}
 use Rattle.layout.specs.Rows.{listed}
 use Rattle.layout.specs.Sizes.{place}
 use Rattle.layout.proofs.SizeLaws.{most-are}
@@ -21,7 +22,12 @@ use Rattle.network.specs.declared.Hop.{Hop}
 use Rattle.network.specs.declared.Parent.{Parent}
 use Rattle.network.specs.Network.{noSystem, noVl, noStream, noPort, noHop, systemAt, vlAt, streamAt, portAt, hopAt}
 use Rattle.table.specs.Decoded.{ticksAt, parentOf}
-use Rattle.sheet.specs.Sheet.{countOn, numberOn, systemOn, vlOn, streamOn, portOn, hopOn, networkOn}
+use Rattle.sheet.specs.declared.Delays.{Delays}
+use Rattle.sheet.specs.Sheet.{countOn, numberOn, systemOn, vlOn, streamOn, portOn, hopOn, networkOn, delaysIn}
+
+-- a number as it stands is one of units, since a unit is a tick
+in-units : {m n : ℕ} → m ≡ n → m ≡ perUnit * n
+in-units {m} {n} e = e ∙ sym (per-unit-is n)
 
 -- the first number of a record
 first-number : (l : List ℕ) (a : ℕ) → getD l (a + 0) 0 ≡ getD l a 0
@@ -85,16 +91,31 @@ module _ (sheet : List ℕ) where
   pub hop-past : (i : ℕ) → length (networkOn sheet .hops) ≤ i → noHop ≡ hopAt (networkOn sheet) i
   hop-past i h = sym (List·getD-eq-default (networkOn sheet .hops) noHop {n = i} h)
 
+  -- ---- the rules of its tick
+  pub rules-on : networkOn sheet .tick ≡ inForce
+  unfolding networkOn
+  rules-on = refl
+
+  -- ---- the delays
+  pub delays-read :
+      _≡_ {A = Delays}
+      (record { «send_least» = getD sheet 0 0; «send_greatest» = getD sheet 1 0; «receive_least» = getD sheet 2 0; «receive_greatest» = getD sheet 3 0 })
+      (delaysIn (networkOn sheet))
+  unfolding networkOn
+  delays-read =
+      let at : (k : ℕ) → getD sheet k 0 ≡ perUnit * getD sheet k 0 = λ k. in-units refl in
+      λ i. record { «send_least» = at 0 i; «send_greatest» = at 1 i; «receive_least» = at 2 i; «receive_greatest» = at 3 i }
+
   -- ---- number k of record i, of records of m numbers from a place on
   number : (s at m : ℕ) → place s ≡ at → listed s ≡ m → (i k : ℕ) → getD sheet (at + i * m + k) 0 ≡ numberOn sheet s i k
   unfolding numberOn
   number s at m p l i k = rw (p, l)
 
-  pub system-read : (at m : ℕ) → place 1 ≡ at → listed 1 ≡ m → (e x : ℕ) → e < length (networkOn sheet .systems) → x ≡ ticksAt (getD sheet (at + e * m) 0)
+  pub system-read : (at m : ℕ) → place 1 ≡ at → listed 1 ≡ m → (e x : ℕ) → e < length (networkOn sheet .systems) → x ≡ ticksAt inForce (getD sheet (at + e * m) 0)
       → _≡_ {A = EndSystem} (record { perbyte = x }) (systemAt (networkOn sheet) e)
   unfolding networkOn systemOn
   system-read at m p l e x h is =
-      let same = is ∙ ap ticksAt (sym (first-number sheet (at + e * m)) ∙ number 1 at m p l e 0) in
+      let same = is ∙ ap (ticksAt inForce) (sym (first-number sheet (at + e * m)) ∙ number 1 at m p l e 0) in
       (λ i. record { perbyte = same i }) ∙ sym (tabulate-at (systemOn sheet) (countOn sheet 1) e noSystem (omega (arith, systems-are)))
 
   pub vl-read : (at m : ℕ) → place 2 ≡ at → listed 2 ≡ m → (v : ℕ) → v < length (networkOn sheet .vls)
@@ -136,8 +157,8 @@ module _ (sheet : List ℕ) where
       let sampling = is ∙ ap (λ (n : ℕ). eqb n 1) (here 2) in
       let size = here 3 in
       let least = here 4 in
-      let period = here 5 in
-      let jitter = here 6 in
+      let period = in-units (here 5) in
+      let jitter = in-units (here 6) in
       (λ i. record {
         vl = vl i;
         sublink = link i;
@@ -149,16 +170,16 @@ module _ (sheet : List ℕ) where
       })
       ∙ sym (tabulate-at (streamOn sheet) (countOn sheet 3) s noStream (omega (arith, streams-are)))
 
-  pub port-read : (at m : ℕ) → place 4 ≡ at → listed 4 ≡ m → (p x : ℕ) → p < length (networkOn sheet .ports) → x ≡ ticksAt (getD sheet (at + p * m) 0)
+  pub port-read : (at m : ℕ) → place 4 ≡ at → listed 4 ≡ m → (p x : ℕ) → p < length (networkOn sheet .ports) → x ≡ ticksAt inForce (getD sheet (at + p * m) 0)
       → _≡_ {A = Port}
       (record { perbyte = x; least = getD sheet (at + p * m + 1) 0; greatest = getD sheet (at + p * m + 2) 0 })
       (portAt (networkOn sheet) p)
   unfolding networkOn portOn
   port-read at m pl l p x h is =
       let here = number 4 at m pl l p in
-      let speed = is ∙ ap ticksAt (sym (first-number sheet (at + p * m)) ∙ here 0) in
-      let least = here 1 in
-      let greatest = here 2 in
+      let speed = is ∙ ap (ticksAt inForce) (sym (first-number sheet (at + p * m)) ∙ here 0) in
+      let least = in-units (here 1) in
+      let greatest = in-units (here 2) in
       (λ i. record { perbyte = speed i; least = least i; greatest = greatest i })
       ∙ sym (tabulate-at (portOn sheet) (countOn sheet 4) p noPort (omega (arith, ports-are)))
 

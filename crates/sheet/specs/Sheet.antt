@@ -5,7 +5,7 @@ use mathlib.Core.List.{List, [], _∷_, _++_}
 use lib.Dec.{eqb}
 use lib.ListN.{getD}
 use Rattle.base.specs.Tabulate.{tabulate}
-use Rattle.frame.specs.Tick.{perMs}
+use Rattle.frame.specs.Tick.{perMs, perUnit, inForce}
 use Rattle.layout.specs.Rows.{listed}
 use Rattle.layout.specs.Sizes.{most, capacity, place}
 use Rattle.network.specs.declared.EndSystem.{EndSystem}
@@ -21,7 +21,7 @@ use Rattle.table.specs.Write.{Lists, listFor, recordsIn}
 use Rattle.table.specs.Decoded.{ticksAt, parentOf}
 use Rattle.sheet.specs.declared.Delays.{Delays}
 
--- ---- the network on a sheet
+-- ---- the network on a sheet: it holds the table's numbers, which the rules in force make ticks
 -- how many records there are of a section: as the sheet says, and no more than it has room for
 unfoldable pub countOn : List ℕ → ℕ → ℕ
 countOn sheet section = min (getD sheet (3 + section) 0) (most section)
@@ -31,7 +31,7 @@ unfoldable pub numberOn : List ℕ → ℕ → ℕ → ℕ → ℕ
 numberOn sheet section i k = getD sheet (place section + i * listed section + k) 0
 
 unfoldable pub systemOn : List ℕ → ℕ → EndSystem
-systemOn sheet i = record { perbyte = ticksAt (numberOn sheet 1 i 0) }
+systemOn sheet i = record { perbyte = ticksAt inForce (numberOn sheet 1 i 0) }
 
 -- the milliseconds of a gap are less than 256
 unfoldable pub vlOn : List ℕ → ℕ → Vl
@@ -49,22 +49,27 @@ streamOn sheet i = record {
   sampling = eqb (numberOn sheet 3 i 2) 1;
   size = numberOn sheet 3 i 3;
   least = numberOn sheet 3 i 4;
-  period = numberOn sheet 3 i 5;
-  jitter = numberOn sheet 3 i 6;
+  period = perUnit * numberOn sheet 3 i 5;
+  jitter = perUnit * numberOn sheet 3 i 6;
 }
 
 unfoldable pub portOn : List ℕ → ℕ → Port
-portOn sheet i = record { perbyte = ticksAt (numberOn sheet 4 i 0); least = numberOn sheet 4 i 1; greatest = numberOn sheet 4 i 2 }
+portOn sheet i = record {
+  perbyte = ticksAt inForce (numberOn sheet 4 i 0);
+  least = perUnit * numberOn sheet 4 i 1;
+  greatest = perUnit * numberOn sheet 4 i 2;
+}
 
 unfoldable pub hopOn : List ℕ → ℕ → Hop
 hopOn sheet i = record { vl = numberOn sheet 5 i 0; port = numberOn sheet 5 i 1; parent = parentOf (numberOn sheet 5 i 2) }
 
 unfoldable pub networkOn : List ℕ → Network
 networkOn sheet = record {
-  sendLeast = getD sheet 0 0;
-  sendGreatest = getD sheet 1 0;
-  receiveLeast = getD sheet 2 0;
-  receiveGreatest = getD sheet 3 0;
+  tick = inForce;
+  sendLeast = perUnit * getD sheet 0 0;
+  sendGreatest = perUnit * getD sheet 1 0;
+  receiveLeast = perUnit * getD sheet 2 0;
+  receiveGreatest = perUnit * getD sheet 3 0;
   systems = tabulate (systemOn sheet) (countOn sheet 1);
   vls = tabulate (vlOn sheet) (countOn sheet 2);
   streams = tabulate (streamOn sheet) (countOn sheet 3);

@@ -14,6 +14,7 @@ ghost use mathlib.Core.Path.{_≡_};
 ghost use Prim.Native.Nat.{_≤_, min};
 ghost use lib.Dec.{eqb};
 ghost use lib.ListN.{length};
+ghost use Rattle.frame.specs.Tick.{inForce};
 ghost use Rattle.network.specs.Network.{systemAt, vlAt, streamAt, portAt, hopAt};
 ghost use Rattle.table.specs.Decoded.{ticksAt, parentOf};
 ghost use Rattle.sheet.specs.Sheet.{networkOn, delaysIn};
@@ -82,7 +83,7 @@ pub fn delays_of(net: &[u64; SHEET]) -> Delays
 
 // The ticks that a byte takes at a speed of 100 or 10 Mbit/s.
 fn ticks_at(mbit: u64) -> u64
-    ensures { λ r. ⌜ r ≡ ticksAt mbit ⌝ }
+    ensures { λ r. ⌜ r ≡ ticksAt inForce mbit ⌝ }
 {
     if mbit == 100 {
         return Tick::per_byte(Speed::Mbit100);

@@ -1,73 +1,78 @@
 -- The network that lists describe, number by number: how many rows it has of each kind, and each field of each row, as the number in the list that it is.
 -- Assumes nothing.
 use Prim.Native.Nat.{ℕ, _*_, _<_}
-use mathlib.Core.Path.{_≡_, refl, ap}
+use mathlib.Core.Path.{_≡_, refl, ap, _∙_}
 use lib.ListN.{length, getD}
 use Rattle.base.proofs.TabulateLaws.{length-tabulate, tabulate-at}
-use Rattle.frame.specs.Tick.{perMs}
+use Rattle.frame.specs.Tick.{perMs, inForce}
+use Rattle.frame.proofs.TickLaws.{per-unit-is}
 use Rattle.network.specs.declared.EndSystem.{EndSystem}
 use Rattle.network.specs.declared.Vl.{Vl}
 use Rattle.network.specs.declared.Stream.{Stream}
 use Rattle.network.specs.declared.Port.{Port}
 use Rattle.network.specs.Network.{noSystem, noVl, noStream, noPort, systemAt, vlAt, streamAt, portAt}
 use Rattle.table.specs.Write.{Lists, recordsIn}
-use Rattle.table.specs.Decoded.{numberAt, ticksAt, systemIn, vlIn, streamIn, portIn, hopIn, networkOf}
+use Rattle.table.specs.Decoded.{numberAt, ticksAt, systemIn, vlIn, streamIn, portIn, hopIn, networkAt, networkOf}
 
 -- ---- the delays, and how many rows there are
 module _ (ls : Lists) where
+  pub rules-are : networkOf ls .tick ≡ inForce
+  unfolding networkAt
+  rules-are = refl
+
   pub send-least : networkOf ls .sendLeast ≡ getD (ls .delays) 0 0
-  unfolding networkOf
-  send-least = refl
+  unfolding networkAt
+  send-least = per-unit-is (getD (ls .delays) 0 0)
 
   pub send-greatest : networkOf ls .sendGreatest ≡ getD (ls .delays) 1 0
-  unfolding networkOf
-  send-greatest = refl
+  unfolding networkAt
+  send-greatest = per-unit-is (getD (ls .delays) 1 0)
 
   pub receive-least : networkOf ls .receiveLeast ≡ getD (ls .delays) 2 0
-  unfolding networkOf
-  receive-least = refl
+  unfolding networkAt
+  receive-least = per-unit-is (getD (ls .delays) 2 0)
 
   pub receive-greatest : networkOf ls .receiveGreatest ≡ getD (ls .delays) 3 0
-  unfolding networkOf
-  receive-greatest = refl
+  unfolding networkAt
+  receive-greatest = per-unit-is (getD (ls .delays) 3 0)
 
   pub systems-are : length (networkOf ls .systems) ≡ recordsIn ls 1
-  unfolding networkOf
-  systems-are = length-tabulate (systemIn ls) (recordsIn ls 1)
+  unfolding networkAt
+  systems-are = length-tabulate (systemIn inForce ls) (recordsIn ls 1)
 
   pub vls-are : length (networkOf ls .vls) ≡ recordsIn ls 2
-  unfolding networkOf
-  vls-are = length-tabulate (vlIn ls) (recordsIn ls 2)
+  unfolding networkAt
+  vls-are = length-tabulate (vlIn inForce ls) (recordsIn ls 2)
 
   pub streams-are : length (networkOf ls .streams) ≡ recordsIn ls 3
-  unfolding networkOf
-  streams-are = length-tabulate (streamIn ls) (recordsIn ls 3)
+  unfolding networkAt
+  streams-are = length-tabulate (streamIn inForce ls) (recordsIn ls 3)
 
   pub ports-are : length (networkOf ls .ports) ≡ recordsIn ls 4
-  unfolding networkOf
-  ports-are = length-tabulate (portIn ls) (recordsIn ls 4)
+  unfolding networkAt
+  ports-are = length-tabulate (portIn inForce ls) (recordsIn ls 4)
 
   pub hops-are : length (networkOf ls .hops) ≡ recordsIn ls 5
-  unfolding networkOf
+  unfolding networkAt
   hops-are = length-tabulate (hopIn ls) (recordsIn ls 5)
 
 -- ---- end systems
 module _ (ls : Lists) (i : ℕ) where
   module _ (h : i < recordsIn ls 1) where
-    pub system-there : systemAt (networkOf ls) i ≡ systemIn ls i
-    unfolding networkOf
-    system-there = tabulate-at (systemIn ls) (recordsIn ls 1) i noSystem h
+    pub system-there : systemAt (networkOf ls) i ≡ systemIn inForce ls i
+    unfolding networkAt
+    system-there = tabulate-at (systemIn inForce ls) (recordsIn ls 1) i noSystem h
 
-    pub system-per-byte : systemAt (networkOf ls) i .perbyte ≡ ticksAt (numberAt ls 1 i 0)
+    pub system-per-byte : systemAt (networkOf ls) i .perbyte ≡ ticksAt inForce (numberAt ls 1 i 0)
     unfolding systemIn
     system-per-byte = ap (λ (x : EndSystem). x .perbyte) system-there
 
 -- ---- VLs
 module _ (ls : Lists) (i : ℕ) where
   module _ (h : i < recordsIn ls 2) where
-    pub vl-there : vlAt (networkOf ls) i ≡ vlIn ls i
-    unfolding networkOf
-    vl-there = tabulate-at (vlIn ls) (recordsIn ls 2) i noVl h
+    pub vl-there : vlAt (networkOf ls) i ≡ vlIn inForce ls i
+    unfolding networkAt
+    vl-there = tabulate-at (vlIn inForce ls) (recordsIn ls 2) i noVl h
 
     pub vl-gap : vlAt (networkOf ls) i .gap ≡ perMs * numberAt ls 2 i 1
     unfolding vlIn
@@ -84,9 +89,9 @@ module _ (ls : Lists) (i : ℕ) where
 -- ---- streams
 module _ (ls : Lists) (i : ℕ) where
   module _ (h : i < recordsIn ls 3) where
-    pub stream-there : streamAt (networkOf ls) i ≡ streamIn ls i
-    unfolding networkOf
-    stream-there = tabulate-at (streamIn ls) (recordsIn ls 3) i noStream h
+    pub stream-there : streamAt (networkOf ls) i ≡ streamIn inForce ls i
+    unfolding networkAt
+    stream-there = tabulate-at (streamIn inForce ls) (recordsIn ls 3) i noStream h
 
     pub stream-size : streamAt (networkOf ls) i .size ≡ numberAt ls 3 i 3
     unfolding streamIn
@@ -98,27 +103,27 @@ module _ (ls : Lists) (i : ℕ) where
 
     pub stream-period : streamAt (networkOf ls) i .period ≡ numberAt ls 3 i 5
     unfolding streamIn
-    stream-period = ap (λ (x : Stream). x .period) stream-there
+    stream-period = ap (λ (x : Stream). x .period) stream-there ∙ per-unit-is (numberAt ls 3 i 5)
 
     pub stream-jitter : streamAt (networkOf ls) i .jitter ≡ numberAt ls 3 i 6
     unfolding streamIn
-    stream-jitter = ap (λ (x : Stream). x .jitter) stream-there
+    stream-jitter = ap (λ (x : Stream). x .jitter) stream-there ∙ per-unit-is (numberAt ls 3 i 6)
 
 -- ---- ports
 module _ (ls : Lists) (i : ℕ) where
   module _ (h : i < recordsIn ls 4) where
-    pub port-there : portAt (networkOf ls) i ≡ portIn ls i
-    unfolding networkOf
-    port-there = tabulate-at (portIn ls) (recordsIn ls 4) i noPort h
+    pub port-there : portAt (networkOf ls) i ≡ portIn inForce ls i
+    unfolding networkAt
+    port-there = tabulate-at (portIn inForce ls) (recordsIn ls 4) i noPort h
 
-    pub port-per-byte : portAt (networkOf ls) i .perbyte ≡ ticksAt (numberAt ls 4 i 0)
+    pub port-per-byte : portAt (networkOf ls) i .perbyte ≡ ticksAt inForce (numberAt ls 4 i 0)
     unfolding portIn
     port-per-byte = ap (λ (x : Port). x .perbyte) port-there
 
     pub port-delay-least : portAt (networkOf ls) i .least ≡ numberAt ls 4 i 1
     unfolding portIn
-    port-delay-least = ap (λ (x : Port). x .least) port-there
+    port-delay-least = ap (λ (x : Port). x .least) port-there ∙ per-unit-is (numberAt ls 4 i 1)
 
     pub port-delay-greatest : portAt (networkOf ls) i .greatest ≡ numberAt ls 4 i 2
     unfolding portIn
-    port-delay-greatest = ap (λ (x : Port). x .greatest) port-there
+    port-delay-greatest = ap (λ (x : Port). x .greatest) port-there ∙ per-unit-is (numberAt ls 4 i 2)

@@ -11,7 +11,7 @@ use lib.ListN.{getD, drop}
 use lib.Seq.{getD-take, getD-drop}
 use Rattle.base.specs.Tests.{numberOr0}
 use Rattle.base.proofs.TestLaws.{no-row-was}
-use Rattle.frame.specs.Tick.{perMs}
+use Rattle.frame.specs.Tick.{perMs, inForce}
 use Rattle.frame.proofs.TickLaws.{per-byte-at-100, per-byte-at-10}
 use Rattle.frame.proofs.GapLaws.{ms-back, gap-in-ms, gap-bounds}
 use Rattle.layout.specs.declared.Way.the-variants.{Reading}
@@ -35,7 +35,7 @@ use Rattle.table.specs.Read.{networkIn, badRefSection, answerAtReference
 use Rattle.table.proofs.AnswerLaws.{Sound, unpack-was}
 use Rattle.table.proofs.WriteLaws.{count}
 use Rattle.table.proofs.UnpackLaws.{count-is}
-use Rattle.table.proofs.DecodedLaws.{send-least, send-greatest, receive-least, receive-greatest, systems-are, vls-are, streams-are, ports-are, hops-are, system-per-byte, vl-gap, vl-sub-links, vl-lmax, stream-size, stream-least-size, stream-period, stream-jitter, port-per-byte, port-delay-least, port-delay-greatest}
+use Rattle.table.proofs.DecodedLaws.{rules-are, send-least, send-greatest, receive-least, receive-greatest, systems-are, vls-are, streams-are, ports-are, hops-are, system-per-byte, vl-gap, vl-sub-links, vl-lmax, stream-size, stream-least-size, stream-period, stream-jitter, port-per-byte, port-delay-least, port-delay-greatest}
 use Rattle.table.proofs.ReadingLaws.{few, readersLengths, readers-roomy, read-accepts}
 use Rattle.table.proofs.HeldLaws.{record-number, system-row, vl-row, stream-row, port-row}
 
@@ -80,7 +80,7 @@ module _ (bytes : List ℕ) where
       getD-take 4 (drop 6 vs) k 0 h ∙ getD-drop 6 vs k 0
 
 -- ---- the ranges
-speed : (mbit : ℕ) → (mbit ≡ 100) ⊎ (mbit ≡ 10) → SpeedRange (ticksAt mbit)
+speed : (mbit : ℕ) → (mbit ≡ 100) ⊎ (mbit ≡ 10) → SpeedRange (ticksAt inForce mbit)
 unfolding ticksAt
 speed mbit = ⊎-elim
     (λ (e : mbit ≡ 100). inl (rw (eq-eqb mbit 100 e) per-byte-at-100))
@@ -168,6 +168,7 @@ sound-ranges bytes sound =
     let r0 = receive-least ls ∙ delay-read bytes 2 (omega arith) in
     let r1 = receive-greatest ls ∙ delay-read bytes 3 (omega arith) in
     record {
+      in-force = rules-are ls;
       few-systems = rw systems (limit .systems);
       few-vls = rw vls (limit .vls);
       few-streams = rw streams (limit .streams);

@@ -1,14 +1,12 @@
 -- `sheet::delays_of` meets its contract: the delays are the first four numbers of the sheet.
 -- Assumes nothing.
-use mathlib.Core.Path.{refl}
-use Rattle.sheet.specs.Sheet.{networkOn}
+use Rattle.sheet.proofs.SheetLaws.{delays-read}
 use borrow.Author.Needs.{needs}
 use Rattle.sheet.proofs.delays_of.Statement.{statement}
 use Rattle.sheet.proofs.delays_of.Tie as tie
 
 returns : tie.Need-returns
-unfolding networkOn
-returns c = refl
+returns c = delays-read _
 
 pub delays-of-spec : {M : Type 1} → statement M
 delays-of-spec =

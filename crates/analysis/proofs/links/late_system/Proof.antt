@@ -7,6 +7,7 @@ use native.Mathlib.Omega.{arith}
 use borrow.Author.Count.{below-more}
 use Rattle.rows.specs.Refusals.{sendsLate}
 use Rattle.sheet.specs.Sheet.{networkOn}
+use Rattle.sheet.proofs.SheetLaws.{rules-on}
 use Rattle.analysis.proofs.LinkLaws.{late-is}
 use borrow.Author.Needs.{needs}
 use Rattle.analysis.proofs.links.late_system.Statement.{statement}
@@ -24,12 +25,12 @@ loop-holds c = (omega arith, (λ k l. absurd (omega arith)))
 returns : tie.Need-returns Inv-loop μ-loop
 returns c =
     let l = c .before .before .before .before .loop in
-    record { inside = omega arith; before = l .inv .1; there = λ h. late-is _ (l .e) _ _ _ (c .before .before .send-sum .ensures) (c .before .sends-in-time .ensures) (c .if1 .taken) }
+    record { inside = omega arith; before = l .inv .1; there = λ h. late-is _ (rules-on _) (l .e) _ _ _ (c .before .before .send-sum .ensures) (c .before .sends-in-time .ensures) (c .if1 .taken) }
 
 loop-again : tie.Need-loop-again Inv-loop μ-loop
 loop-again c =
     let l = c .before .before .before .before .loop in
-    (omega arith, below-more _ (l .e) (l .inv .1) (late-is _ (l .e) _ _ _ (c .before .before .send-sum .ensures) (c .before .sends-in-time .ensures) (c .if1 .left)))
+    (omega arith, below-more _ (l .e) (l .inv .1) (late-is _ (rules-on _) (l .e) _ _ _ (c .before .before .send-sum .ensures) (c .before .sends-in-time .ensures) (c .if1 .left)))
 
 returns-2 : tie.Need-returns-2 Inv-loop μ-loop
 returns-2 c =

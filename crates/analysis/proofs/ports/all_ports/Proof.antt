@@ -6,6 +6,7 @@ use native.Mathlib.Omega.{arith}
 use lib.ListN.{length}
 use borrow.Author.Needs.{needs}
 use Rattle.sheet.specs.Sheet.{networkOn}
+use Rattle.sheet.proofs.SheetLaws.{rules-on}
 use Rattle.analysis.proofs.FigureLaws.{Figured, figured-none, port-accepted, first-endless, figured-more, none-endless}
 use Rattle.analysis.proofs.ports.all_ports.Statement.{statement}
 use Rattle.analysis.proofs.ports.all_ports.Tie as tie
@@ -33,14 +34,14 @@ served-requires c κs =
 returns : tie.Need-returns Inv-loop μ-loop
 returns c =
     let l = c .before .before .before .before .before .before .before .before .loop in
-    first-endless _ (l .p) _ _ (c .before .before .before .port-flows .ensures .0) _ (c .before .served .ensures) (l .figures) (l .jitters) (l .inv .0) (c .if1 .taken)
+    first-endless _ (l .p) _ _ (c .before .before .before .port-flows .ensures .0) (rules-on _) _ (c .before .served .ensures) (l .figures) (l .jitters) (l .inv .0) (c .if1 .taken)
 
 loop-again : tie.Need-loop-again Inv-loop μ-loop
 loop-again c =
     let few = c .before .before .before .before .before .before .before .before .before .before .pre .0 .ranges .few-ports in
     let l = c .before .before .before .before .before .before .before .before .loop in
     let gathered = c .before .before .before .port-flows .ensures in
-    (figured-more _ (l .p) _ _ (gathered .0) _ (c .before .served .ensures) (l .figures) (l .jitters) _ (l .inv .0) few (omega arith) (c .if1 .left) (gathered .1), gathered .0 .long)
+    (figured-more _ (l .p) _ _ (gathered .0) (rules-on _) _ (c .before .served .ensures) (l .figures) (l .jitters) _ (l .inv .0) few (omega arith) (c .if1 .left) (gathered .1), gathered .0 .long)
 
 returns-2 : tie.Need-returns-2 Inv-loop μ-loop
 returns-2 c =

@@ -3,6 +3,7 @@
 use mathlib.Core.Path.{ap}
 use Rattle.network.specs.declared.Vl.{Vl}
 use Rattle.analysis.proofs.BoundLaws.{queue-offered}
+use Rattle.sheet.proofs.SheetLaws.{rules-on}
 use Rattle.analysis.proofs.QueueLaws.{queue-found}
 use borrow.Author.Needs.{needs}
 use Rattle.analysis.proofs.queues.queue.Statement.{statement}
@@ -17,7 +18,7 @@ served-requires c κs =
 returns : tie.Need-returns
 returns c =
     let f = c .before .before .before .before .queue-flows .ensures in
-    let found = queue-found _ _ _ _ _ _ _ _ f (c .before .before .served .ensures) (ap (λ (x : Vl). x .gap) (c .before .vl-at .ensures)) (c .less .ensures) in
+    let found = queue-found _ _ _ (rules-on _) _ _ _ _ _ f (c .before .before .served .ensures) (ap (λ (x : Vl). x .gap) (c .before .vl-at .ensures)) (c .less .ensures) in
     (found .0, found .1, f .long)
 
 pub queue-spec : {M : Type 1} → statement M
