@@ -7,8 +7,9 @@ use crate::make::{damage, heavy, mixture, sizes};
 use crate::paper::rows;
 use crate::paper::table::{ACCEPTED, Answer};
 
+/// With room for far more than 1,024 rows, so that 8 is for their count alone.
 fn answer_to(bytes: &[u8]) -> Answer {
-    rows::rows(bytes, mixture::FULL_ROOM).map_or_else(|refusal| refusal, |_| ACCEPTED)
+    rows::rows(bytes, 2 * mixture::FULL_ROOM).map_or_else(|refusal| refusal, |_| ACCEPTED)
 }
 
 /// 1: "fewer than 14 bytes"

@@ -9,14 +9,16 @@ use crate::paper::table;
 use crate::run::machine::{self, Choices, Message, Outcome};
 use crate::run::{plans, simulate, tickwise};
 
-/// Every delay at its least, messages and frames in order, the first turn to the first.
+/// Every delay at its least, the first turn to the first.
 struct Least<'a> {
     net: &'a Network,
+    /// Of what arrives in one tick, does the first message come first?
+    in_order: bool,
 }
 
 impl Choices for Least<'_> {
     fn order(&mut self, message: usize, _: Option<usize>) -> u64 {
-        message as u64
+        if self.in_order { message as u64 } else { u64::MAX - message as u64 }
     }
 
     fn switch_delay(&mut self, _: usize, hop: usize, _: u64) -> u64 {
@@ -39,9 +41,13 @@ fn message(stream: usize, size: u64) -> Message {
 
 /// What both machines show, one after the other.
 fn both(net: &Network, messages: &[Message]) -> [Outcome; 2] {
-    let quick = machine::run(net, messages, &mut Least { net });
+    ordered(net, messages, true)
+}
+
+fn ordered(net: &Network, messages: &[Message], in_order: bool) -> [Outcome; 2] {
+    let quick = machine::run(net, messages, &mut Least { net, in_order });
     let end = quick.completions.iter().map(|c| c.2).max().unwrap_or(0);
-    [quick, tickwise::run(net, messages, &mut Least { net }, end)]
+    [quick, tickwise::run(net, messages, &mut Least { net, in_order }, end)]
 }
 
 /// The whole case's stream 1 with 10 bytes: 500, 84 on the link, 875, 84 at the port, 500.
@@ -75,6 +81,24 @@ pub fn sub_links_take_turns(report: &mut Report) {
         let net = network(&lists);
         for outcome in both(&net, &[message(0, 2_000), message(1, 2_000)]) {
             report.same("waits", outcome.waits, waits.clone());
+        }
+    }
+}
+
+/// "same-tick order is free" in a queue, "ties free" in a FIFO: the choice is followed. Two messages
+/// of the whole case's stream 1, and one each from two end systems to one port.
+pub fn same_tick_order_is_kept(report: &mut Report) {
+    let whole = whole_case::lists();
+    let mut apart = whole_case::lists();
+    apart[1] = vec![100, 100];
+    apart[2][4] = 1;
+    for (in_order, first, second) in [(true, 0, 1), (false, 1, 0)] {
+        for outcome in ordered(&network(&whole), &[message(1, 10), message(1, 10)], in_order) {
+            report.same("waits", (outcome.waits[first], outcome.waits[second]), (0, 25_000));
+        }
+        for outcome in ordered(&network(&apart), &[message(0, 10), message(1, 10)], in_order) {
+            let ends = outcome.completions;
+            report.same("ends", (ends[first].2, ends[second].2), (7_043, 7_043 + 84));
         }
     }
 }

@@ -63,7 +63,7 @@ parts! {
     numbers: case_1_line_sizes, case_2_packets, case_3_length_and_queue, case_4_both_end_ticks,
         case_5_load_of_one, case_6_one_tick_of_jitter, case_7_one_turn_in_two, case_8_port,
         case_9_end_system, case_10_bytes, whole_case_bytes, whole_case_rows,
-        whole_case_lent_result;
+        best_counts_every_least_packet, whole_case_lent_result;
     stations: busy_length_is_the_least_of_every_length, figure_is_the_greatest_of_every_span,
         span_is_the_first_with_the_figure, stations_of_real_size, busy_length_ends_at_its_limit,
         station_by_itself_refuses;
@@ -77,10 +77,11 @@ parts! {
         made_for_7, made_for_8, made_for_9, made_for_10, made_to_be_accepted, greatest_counts,
         two_cases_at_once, heavy_tables_pass_1_to_8, damaged_tables_end;
     streams: stream_reads_back, answers_leave_no_lent_place, cut_stream_is_seen,
-        gate_stream_has_every_answer, gate_stream_has_every_case, gate_stream_has_every_size;
+        gate_stream_has_every_answer, gate_stream_has_every_case, gate_stream_has_every_size,
+        gate_stream_has_every_short_list;
     machines: least_run_takes_its_best_figure, second_packet_waits_one_gap,
-        sub_links_take_turns, events_and_ticks_agree, unlawful_plans_are_seen,
-        runs_keep_to_their_rows, wrong_rows_are_seen;
+        sub_links_take_turns, same_tick_order_is_kept, events_and_ticks_agree,
+        unlawful_plans_are_seen, runs_keep_to_their_rows, wrong_rows_are_seen;
 }
 
 /// Runs one part and gives its report.

@@ -139,6 +139,15 @@ pub fn whole_case_rows(report: &mut Report) {
     report.same("13 bytes printed", rows::printed(&bytes[..13]), "refused 1 0 0\n".to_string());
 }
 
+/// "(least packets − 1) × BAG": with a least M of 2,000 stream 0 has two packets at least.
+pub fn best_counts_every_least_packet(report: &mut Report) {
+    let mut lists = whole_case::lists();
+    lists[3][4] = 2_000;
+    let bytes = table::written(&lists).expect("records in range");
+    let row = [0, 0, 12_500, 19_398, 2_043 + 12_500, 17_355 - 12_500];
+    report.same("row", rows::rows(&bytes, 12).map(|list| list[0]), Ok(row));
+}
+
 /// "the lent result is shorter than 6 numbers a row", and what the lent result holds afterwards.
 pub fn whole_case_lent_result(report: &mut Report) {
     let bytes = whole_case();

@@ -2,7 +2,7 @@
 // The gate's stream is that of seed 1 with 1,500 items.
 use super::Report;
 use crate::make::mixture;
-use crate::paper::table::BYTES;
+use crate::paper::table::{self, BYTES};
 use crate::run::batch;
 use crate::run::items::{self, Item};
 
@@ -96,4 +96,20 @@ pub fn gate_stream_has_every_size(report: &mut Report) {
         report.holds("one record more", seen.contains(&(items::MOST_NUMBERS, bytes, 2)));
     }
     report.holds("a byte more", seen.contains(&(items::MOST_NUMBERS, 12_111, 3)));
+}
+
+/// 11 of the unpacker by each of the six lists, one number short while the others are long enough.
+pub fn gate_stream_has_every_short_list(report: &mut Report) {
+    let mut seen = [false; 6];
+    for item in gate_stream() {
+        if let Item::Unpack { rooms, bytes } = item {
+            if let Ok(lists) = table::read(&bytes) {
+                let short: Vec<usize> = (0..6).filter(|&k| rooms[k] < lists[k].len()).collect();
+                if let [k] = short[..] {
+                    seen[k] |= rooms[k] + 1 == lists[k].len();
+                }
+            }
+        }
+    }
+    report.same("lists", seen, [true; 6]);
 }
