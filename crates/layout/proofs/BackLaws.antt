@@ -19,7 +19,8 @@ use Rattle.layout.specs.declared.Kind.the-variants.{Number, Reference, P
 use Rattle.layout.specs.declared.Shape.{Shape}
 use Rattle.layout.specs.declared.Way.{Way}
 use Rattle.layout.specs.declared.Way.the-variants.{Reading, Writing}
-use Rattle.layout.specs.Layout.{header, stream, port, layout, blank, Order, orders, widths}
+use Rattle.layout.specs.Layout.{header, stream, port, layoutIn, layout, placeOf, blank, Order, orders, widths}
+use Rattle.layout.specs.Names.{numberOf, indexIn, placeIn}
 use Rattle.layout.specs.Fields.{convert}
 use Rattle.base.specs.Tests.{numberOr0}
 use Rattle.layout.specs.Rows.{converted, rowFault}
@@ -47,14 +48,14 @@ number-is LessOne t = absurd t
 number-is Speed t = absurd t
 
 unfoldable pub numberAt : List Shape → ℕ → Bool
-numberAt ss k = ltb k (length ss) && isNumber (getD ss k blank .1)
+numberAt ss k = ltb k (length ss) && isNumber (getD ss k blank .kind)
 
 numbered : List Shape → List Order → Bool
 numbered ss [] = true
-numbered ss (o ∷ os) = (numberAt ss (o .lesser) && numberAt ss (o .greater)) && numbered ss os
+numbered ss (o ∷ os) = (numberAt ss (placeIn ss (o .lesser)) && numberAt ss (placeIn ss (o .greater))) && numbered ss os
 
 all-numbered : T (every (λ s. numbered (layout s) (orders s)) 6)
-unfolding numbered numberAt isNumber layout header stream port orders
+unfolding numbered numberAt isNumber indexIn numberOf layoutIn header stream port orders
 all-numbered = tt
 
 pairs-numbered : (s : ℕ) → T (numbered (layout s) (orders s))
@@ -66,83 +67,83 @@ pairs-numbered s = go (decLt s 6)
     go (no n) = rw (no-orders s (omega arith) (omega arith) (omega arith)) tt
 
 -- ---- there and back
-module _ (way : Way) (section : ℕ) (row : List ℕ) (f : Faultless way section row) where
+module _ (way : Way) (kind : ℕ) (row : List ℕ) (f : Faultless way kind row) where
   abbrev there : List ℕ
-  there = converted way (layout section) row
+  there = converted way (layout kind) row
 
-  pub same-number : (k : ℕ) → T (numberAt (layout section) k) → getD there k 0 ≡ getD row k 0
+  pub same-number : (k : ℕ) → T (numberAt (layout kind) k) → getD there k 0 ≡ getD row k 0
   unfolding numberAt
   same-number k t =
-      let low = ltb k (length (layout section)) in
-      let shape = getD (layout section) k blank in
-      let is = number-is (shape .1) (right low (isNumber (shape .1)) t) in
-      sym (number-was way shape (is .0) (is .1) (getD row k 0) (getD there k 0) (is .2) (f .fields k (ltb→lt _ _ (left low (isNumber (shape .1)) t))) .2)
+      let low = ltb k (length (layout kind)) in
+      let shape = getD (layout kind) k blank in
+      let is = number-is (shape .kind) (right low (isNumber (shape .kind)) t) in
+      sym (number-was way shape (is .0) (is .1) (getD row k 0) (getD there k 0) (is .2) (f .fields k (ltb→lt _ _ (left low (isNumber (shape .kind)) t))) .2)
 
-  still-ordered : (os : List Order) → T (numbered (layout section) os) → Ordered os row → Ordered os there
+  still-ordered : (os : List Order) → T (numbered (layout kind) os) → Ordered (layout kind) os row → Ordered (layout kind) os there
   unfolding numbered
   still-ordered [] t h = tt
   still-ordered (o ∷ os) t h =
-      let pair = numberAt (layout section) (o .lesser) && numberAt (layout section) (o .greater) in
-      let here = left pair (numbered (layout section) os) t in
-      let l = same-number (o .lesser) (left (numberAt (layout section) (o .lesser)) (numberAt (layout section) (o .greater)) here) in
-      let g = same-number (o .greater) (right (numberAt (layout section) (o .lesser)) (numberAt (layout section) (o .greater)) here) in
-      (rw (l, g) (h .0), still-ordered os (right pair (numbered (layout section) os) t) (h .1))
+      let pair = numberAt (layout kind) (placeOf kind (o .lesser)) && numberAt (layout kind) (placeOf kind (o .greater)) in
+      let here = left pair (numbered (layout kind) os) t in
+      let l = same-number (placeOf kind (o .lesser)) (left (numberAt (layout kind) (placeOf kind (o .lesser))) (numberAt (layout kind) (placeOf kind (o .greater))) here) in
+      let g = same-number (placeOf kind (o .greater)) (right (numberAt (layout kind) (placeOf kind (o .lesser))) (numberAt (layout kind) (placeOf kind (o .greater))) here) in
+      (rw (l, g) (h .0), still-ordered os (right pair (numbered (layout kind) os) t) (h .1))
 
   -- where each field gives its number back
-  module _ (back : Way) (gives-back : (k : ℕ) → k < length (layout section) → convert back (getD (layout section) k blank) (getD there k 0) ≡ some (getD row k 0)) where
-    back-at : (k : ℕ) → k < length (layout section) → getD (converted back (layout section) there) k 0 ≡ getD row k 0
+  module _ (back : Way) (gives-back : (k : ℕ) → k < length (layout kind) → convert back (getD (layout kind) k blank) (getD there k 0) ≡ some (getD row k 0)) where
+    back-at : (k : ℕ) → k < length (layout kind) → getD (converted back (layout kind) there) k 0 ≡ getD row k 0
     unfolding numberOr0
-    back-at k h = converted-at back (layout section) there k h ∙ ap numberOr0 (gives-back k h)
+    back-at k h = converted-at back (layout kind) there k h ∙ ap numberOr0 (gives-back k h)
 
-    row-back : length row ≡ length (layout section) → converted back (layout section) there ≡ row
+    row-back : length row ≡ length (layout kind) → converted back (layout kind) there ≡ row
     row-back long =
-        let n = length-converted back (layout section) there in
-        ext-getD 0 (converted back (layout section) there) row (n ∙ sym long) (λ k h. back-at k (rw n at h))
+        let n = length-converted back (layout kind) there in
+        ext-getD 0 (converted back (layout kind) there) row (n ∙ sym long) (λ k h. back-at k (rw n at h))
 
-    faultless-back : rowFault back section there ≡ none
-    faultless-back = no-fault back section there record {
+    faultless-back : rowFault back kind there ≡ none
+    faultless-back = no-fault back kind there record {
       fields = λ k h. gives-back k h ∙ ap some (sym (back-at k h));
-      ordered = still-ordered (orders section) (pairs-numbered section) (f .ordered);
+      ordered = still-ordered (orders kind) (pairs-numbered kind) (f .ordered);
     }
 
 -- ---- what was read, written again: the table is not changed by unpacking and writing
-module _ (section : ℕ) (raw : List ℕ) (ok : rowFault Reading section raw ≡ none) (fit : Fit (widths section) raw) where
-  f : Faultless Reading section raw
-  f = faultless Reading section raw ok
+module _ (kind : ℕ) (raw : List ℕ) (ok : rowFault Reading kind raw ≡ none) (fit : Fit (widths kind) raw) where
+  f : Faultless Reading kind raw
+  f = faultless Reading kind raw ok
 
-  long : length raw ≡ length (layout section)
-  long = fit-length (widths section) raw fit ∙ length-widths section
+  long : length raw ≡ length (layout kind)
+  long = fit-length (widths kind) raw fit ∙ length-widths kind
 
-  stored-back : (k : ℕ) → k < length (layout section)
-      → convert Writing (getD (layout section) k blank) (getD (converted Reading (layout section) raw) k 0) ≡ some (getD raw k 0)
+  stored-back : (k : ℕ) → k < length (layout kind)
+      → convert Writing (getD (layout kind) k blank) (getD (converted Reading (layout kind) raw) k 0) ≡ some (getD raw k 0)
   stored-back k h =
-      let narrow = rw (widths-at section k) at (fit-at (widths section) raw k fit (omega (arith, length-widths section))) in
-      write-after-read (getD (layout section) k blank) (getD raw k 0) (getD (converted Reading (layout section) raw) k 0) narrow (f .fields k h)
+      let narrow = rw (widths-at kind k) at (fit-at (widths kind) raw k fit (omega (arith, length-widths kind))) in
+      write-after-read (getD (layout kind) k blank) (getD raw k 0) (getD (converted Reading (layout kind) raw) k 0) narrow (f .fields k h)
 
-  pub read-written : converted Writing (layout section) (converted Reading (layout section) raw) ≡ raw
-  read-written = row-back Reading section raw f Writing stored-back long
+  pub read-written : converted Writing (layout kind) (converted Reading (layout kind) raw) ≡ raw
+  read-written = row-back Reading kind raw f Writing stored-back long
 
-  pub read-writable : rowFault Writing section (converted Reading (layout section) raw) ≡ none
-  read-writable = faultless-back Reading section raw f Writing stored-back
+  pub read-writable : rowFault Writing kind (converted Reading (layout kind) raw) ≡ none
+  read-writable = faultless-back Reading kind raw f Writing stored-back
 
 -- ---- what was written, read again: the lists come back
-module _ (section : ℕ) (vs : List ℕ) (ok : rowFault Writing section vs ≡ none) where
-  g : Faultless Writing section vs
-  g = faultless Writing section vs ok
+module _ (kind : ℕ) (vs : List ℕ) (ok : rowFault Writing kind vs ≡ none) where
+  g : Faultless Writing kind vs
+  g = faultless Writing kind vs ok
 
-  meant-back : (k : ℕ) → k < length (layout section)
-      → (getD (converted Writing (layout section) vs) k 0 < 2 ^ (getD (layout section) k blank .0))
-      × (convert Reading (getD (layout section) k blank) (getD (converted Writing (layout section) vs) k 0) ≡ some (getD vs k 0))
-  meant-back k h = read-after-write (getD (layout section) k blank) (getD vs k 0) (getD (converted Writing (layout section) vs) k 0) (sane-at section k h) (g .fields k h)
+  meant-back : (k : ℕ) → k < length (layout kind)
+      → (getD (converted Writing (layout kind) vs) k 0 < 2 ^ (getD (layout kind) k blank .width))
+      × (convert Reading (getD (layout kind) k blank) (getD (converted Writing (layout kind) vs) k 0) ≡ some (getD vs k 0))
+  meant-back k h = read-after-write (getD (layout kind) k blank) (getD vs k 0) (getD (converted Writing (layout kind) vs) k 0) (sane-at kind k h) (g .fields k h)
 
   -- what is written fits the fields
-  pub written-fits : Fit (widths section) (converted Writing (layout section) vs)
+  pub written-fits : Fit (widths kind) (converted Writing (layout kind) vs)
   written-fits =
-      fit-of (widths section) (converted Writing (layout section) vs) (length-converted Writing (layout section) vs ∙ sym (length-widths section))
-      (λ k h. rw (widths-at section k) (meant-back k (omega (arith, length-widths section)) .0))
+      fit-of (widths kind) (converted Writing (layout kind) vs) (length-converted Writing (layout kind) vs ∙ sym (length-widths kind))
+      (λ k h. rw (widths-at kind k) (meant-back k (omega (arith, length-widths kind)) .0))
 
-  pub written-readable : rowFault Reading section (converted Writing (layout section) vs) ≡ none
-  written-readable = faultless-back Writing section vs g Reading (λ k h. meant-back k h .1)
+  pub written-readable : rowFault Reading kind (converted Writing (layout kind) vs) ≡ none
+  written-readable = faultless-back Writing kind vs g Reading (λ k h. meant-back k h .1)
 
-  pub written-read : length vs ≡ length (layout section) → converted Reading (layout section) (converted Writing (layout section) vs) ≡ vs
-  written-read long = row-back Writing section vs g Reading (λ k h. meant-back k h .1) long
+  pub written-read : length vs ≡ length (layout kind) → converted Reading (layout kind) (converted Writing (layout kind) vs) ≡ vs
+  written-read long = row-back Writing kind vs g Reading (λ k h. meant-back k h .1) long

@@ -15,11 +15,12 @@ use borrow.Author.Tests.{not-true, not-false, leb-true, le-leb}
 use Rattle.base.proofs.LeastLaws.{least-is, least-none, least-was, none-was}
 use Rattle.layout.specs.declared.Shape.{Shape}
 use Rattle.layout.specs.declared.Way.{Way}
-use Rattle.layout.specs.Layout.{layout, blank, Order, orders}
+use Rattle.layout.specs.Layout.{layout, placeOf, blank, Order, orders}
+use Rattle.layout.specs.Names.{placeIn}
 use Rattle.layout.specs.Fields.{convert}
 use Rattle.base.specs.Tests.{numberOr0, isSome, firstFailing}
 use Rattle.layout.specs.Contracts.{wide, orderFault}
-use Rattle.layout.specs.Rows.{converted, fieldTests, orderTests, rowFault}
+use Rattle.layout.specs.Rows.{converted, fieldTests, orderTests, rowFaultIn, rowFault}
 use Rattle.layout.proofs.RowLaws.{converted-at, wide-at}
 
 -- ---- the first test that fails
@@ -89,80 +90,80 @@ field-test-at way (s ∷ ss) (n ∷ row) (suc k) h = field-test-at way ss row k 
 
 -- ---- the tests of the pairs
 -- each pair is in order
-abbrev pub Ordered : List Order → List ℕ → Type 0
-Ordered [] row = Unit
-Ordered (o ∷ os) row = (getD row (o .lesser) 0 ≤ getD row (o .greater) 0) × Ordered os row
+abbrev pub Ordered : List Shape → List Order → List ℕ → Type 0
+Ordered ss [] row = Unit
+Ordered ss (o ∷ os) row = (getD row (placeIn ss (o .lesser)) 0 ≤ getD row (placeIn ss (o .greater)) 0) × Ordered ss os row
 
-ordered-was : (os : List Order) (row : List ℕ) → Pass (orderTests os row) → Ordered os row
+ordered-was : (ss : List Shape) (os : List Order) (row : List ℕ) → Pass (orderTests ss os row) → Ordered ss os row
 unfolding orderTests
-ordered-was [] row pass = tt
-ordered-was (o ∷ os) row pass = (leb-true _ _ (pass 0), ordered-was os row (λ i. pass (suc i)))
+ordered-was ss [] row pass = tt
+ordered-was ss (o ∷ os) row pass = (leb-true _ _ (pass 0), ordered-was ss os row (λ i. pass (suc i)))
 
-ordered-pass : (os : List Order) (row : List ℕ) → Ordered os row → Pass (orderTests os row)
+ordered-pass : (ss : List Shape) (os : List Order) (row : List ℕ) → Ordered ss os row → Pass (orderTests ss os row)
 unfolding orderTests
-ordered-pass [] row h i = refl
-ordered-pass (o ∷ os) row h zero = le-leb _ _ (h .0)
-ordered-pass (o ∷ os) row h (suc i) = ordered-pass os row (h .1) i
+ordered-pass ss [] row h i = refl
+ordered-pass ss (o ∷ os) row h zero = le-leb _ _ (h .0)
+ordered-pass ss (o ∷ os) row h (suc i) = ordered-pass ss os row (h .1) i
 
 -- ---- the fault of a row
-module _ (way : Way) (section : ℕ) (row : List ℕ) where
+module _ (way : Way) (kind : ℕ) (row : List ℕ) where
   -- what field k gives
   abbrev given : ℕ → Option ℕ
-  given k = convert way (getD (layout section) k blank) (getD row k 0)
+  given k = convert way (getD (layout kind) k blank) (getD row k 0)
 
   fields : List Bool
-  fields = fieldTests way (layout section) row
+  fields = fieldTests way (layout kind) row
 
   -- the first k fields are in range
   abbrev pub GoodTo : ℕ → Type 0
   GoodTo k = (i : ℕ) → i < k → isSome (given i) ≡ true
 
-  fields-pass : GoodTo (length (layout section)) → Pass fields
+  fields-pass : GoodTo (length (layout kind)) → Pass fields
   unfolding fields
-  fields-pass good i = go (decLt i (length (layout section)))
+  fields-pass good i = go (decLt i (length (layout kind)))
     where
-      go : Dec (i < length (layout section)) → getD fields i true ≡ true
-      go (yes h) = field-test-at way (layout section) row i h ∙ good i h
-      go (no n) = List·getD-eq-default fields true {n = i} (omega (arith, length-field-tests way (layout section) row))
+      go : Dec (i < length (layout kind)) → getD fields i true ≡ true
+      go (yes h) = field-test-at way (layout kind) row i h ∙ good i h
+      go (no n) = List·getD-eq-default fields true {n = i} (omega (arith, length-field-tests way (layout kind) row))
 
   -- a field that is out of range, behind fields that are not, is the fault
-  pub fault-field : (k : ℕ) → k < length (layout section) → GoodTo k → isSome (given k) ≡ false → rowFault way section row ≡ some k
-  unfolding rowFault
+  pub fault-field : (k : ℕ) → k < length (layout kind) → GoodTo k → isSome (given k) ≡ false → rowFault way kind row ≡ some k
+  unfolding rowFaultIn
   fault-field k h good bad =
-      let n = length-field-tests way (layout section) row in
-      let os = orderTests (orders section) row in
-      let at-field : (i : ℕ) → i ≤ k → getD (fieldTests way (layout section) row ++ os) i true ≡ isSome (given i) =
-      λ i l. List·getD-append (fieldTests way (layout section) row) os true i (omega arith) ∙ field-test-at way (layout section) row i (omega arith) in
-      failing-at (fieldTests way (layout section) row ++ os) k (omega (arith, length-append (fieldTests way (layout section) row) os))
+      let n = length-field-tests way (layout kind) row in
+      let os = orderTests (layout kind) (orders kind) row in
+      let at-field : (i : ℕ) → i ≤ k → getD (fieldTests way (layout kind) row ++ os) i true ≡ isSome (given i) =
+      λ i l. List·getD-append (fieldTests way (layout kind) row) os true i (omega arith) ∙ field-test-at way (layout kind) row i (omega arith) in
+      failing-at (fieldTests way (layout kind) row ++ os) k (omega (arith, length-append (fieldTests way (layout kind) row) os))
       (λ i l. at-field i (omega arith) ∙ good i l)
       (at-field k (omega arith) ∙ bad)
 
   -- where all fields are in range, it is that of the pairs
-  pub fault-order : GoodTo (length (layout section)) → rowFault way section row ≡ orderFault section row
-  unfolding rowFault orderFault fields
+  pub fault-order : GoodTo (length (layout kind)) → rowFault way kind row ≡ orderFault kind row
+  unfolding rowFaultIn orderFault fields
   fault-order good =
-      failing-later fields (orderTests (orders section) row) (fields-pass good)
-      ∙ ap (λ (n : ℕ). Option·map (λ (i : ℕ). n + i) (firstFailing (orderTests (orders section) row))) (length-field-tests way (layout section) row)
+      failing-later fields (orderTests (layout kind) (orders kind) row) (fields-pass good)
+      ∙ ap (λ (n : ℕ). Option·map (λ (i : ℕ). n + i) (firstFailing (orderTests (layout kind) (orders kind) row))) (length-field-tests way (layout kind) row)
 
 -- ---- the fault of the pairs
 -- pair i is not in order, and those before it are
-pub pair-fails : (section : ℕ) (row : List ℕ) (i : ℕ) → i < length (orders section)
-    → ((j : ℕ) → j < i → getD (orderTests (orders section) row) j true ≡ true) → getD (orderTests (orders section) row) i true ≡ false
-    → orderFault section row ≡ some (length (layout section) + i)
+pub pair-fails : (kind : ℕ) (row : List ℕ) (i : ℕ) → i < length (orders kind)
+    → ((j : ℕ) → j < i → getD (orderTests (layout kind) (orders kind) row) j true ≡ true) → getD (orderTests (layout kind) (orders kind) row) i true ≡ false
+    → orderFault kind row ≡ some (length (layout kind) + i)
 unfolding orderFault orderTests
-pair-fails section row i h before bad =
-    rw (failing-at (orderTests (orders section) row) i (omega (arith, length-map (orders section) (λ (o : Order). leb (getD row (o .lesser) 0) (getD row (o .greater) 0)))) before bad)
+pair-fails kind row i h before bad =
+    rw (failing-at (orderTests (layout kind) (orders kind) row) i (omega (arith, length-map (orders kind) (λ (o : Order). leb (getD row (placeOf kind (o .lesser)) 0) (getD row (placeOf kind (o .greater)) 0)))) before bad)
 
-pub pairs-pass : (section : ℕ) (row : List ℕ) → Ordered (orders section) row → orderFault section row ≡ none
+pub pairs-pass : (kind : ℕ) (row : List ℕ) → Ordered (layout kind) (orders kind) row → orderFault kind row ≡ none
 unfolding orderFault
-pairs-pass section row h = rw (failing-none (orderTests (orders section) row) (ordered-pass (orders section) row h))
+pairs-pass kind row h = rw (failing-none (orderTests (layout kind) (orders kind) row) (ordered-pass (layout kind) (orders kind) row h))
 
 -- ---- a row without fault
 -- each field is in range and gives the number that stands in the row converted, and each pair is in order
-pub record Faultless (way : Way) (section : ℕ) (row : List ℕ) : Type 0 where
-  pub fields : (k : ℕ) → k < length (layout section)
-      → convert way (getD (layout section) k blank) (getD row k 0) ≡ some (getD (converted way (layout section) row) k 0)
-  pub ordered : Ordered (orders section) row
+pub record Faultless (way : Way) (kind : ℕ) (row : List ℕ) : Type 0 where
+  pub fields : (k : ℕ) → k < length (layout kind)
+      → convert way (getD (layout kind) k blank) (getD row k 0) ≡ some (getD (converted way (layout kind) row) k 0)
+  pub ordered : Ordered (layout kind) (orders kind) row
 
 is-some : (o : Option ℕ) → isSome o ≡ true → o ≡ some (numberOr0 o)
 unfolding isSome numberOr0
@@ -173,33 +174,33 @@ some-is : (o : Option ℕ) (n : ℕ) → o ≡ some n → isSome o ≡ true
 unfolding isSome
 some-is o n e = ap isSome e
 
-pub faultless : (way : Way) (section : ℕ) (row : List ℕ) → rowFault way section row ≡ none → Faultless way section row
-unfolding rowFault
-faultless way section row e =
-    let ts = fieldTests way (layout section) row in
-    let us = orderTests (orders section) row in
+pub faultless : (way : Way) (kind : ℕ) (row : List ℕ) → rowFault way kind row ≡ none → Faultless way kind row
+unfolding rowFaultIn
+faultless way kind row e =
+    let ts = fieldTests way (layout kind) row in
+    let us = orderTests (layout kind) (orders kind) row in
     let pass = none-failing (ts ++ us) e in
-    let n = length-field-tests way (layout section) row in
+    let n = length-field-tests way (layout kind) row in
     record {
       fields = λ k h.
-          is-some _ (sym (field-test-at way (layout section) row k h) ∙ sym (List·getD-append ts us true k (omega arith)) ∙ pass k)
-          ∙ ap some (sym (converted-at way (layout section) row k h));
-      ordered = ordered-was (orders section) row (λ i. sym (getD-append-add ts us i true) ∙ pass (length ts + i));
+          is-some _ (sym (field-test-at way (layout kind) row k h) ∙ sym (List·getD-append ts us true k (omega arith)) ∙ pass k)
+          ∙ ap some (sym (converted-at way (layout kind) row k h));
+      ordered = ordered-was (layout kind) (orders kind) row (λ i. sym (getD-append-add ts us i true) ∙ pass (length ts + i));
     }
 
-pub no-fault : (way : Way) (section : ℕ) (row : List ℕ) → Faultless way section row → rowFault way section row ≡ none
-no-fault way section row f = fault-order way section row (λ i h. some-is _ _ (f .fields i h)) ∙ pairs-pass section row (f .ordered)
+pub no-fault : (way : Way) (kind : ℕ) (row : List ℕ) → Faultless way kind row → rowFault way kind row ≡ none
+no-fault way kind row f = fault-order way kind row (λ i h. some-is _ _ (f .fields i h)) ∙ pairs-pass kind row (f .ordered)
 
 -- ---- rows that agree at each place have one fault
-pairs-same : (row row′ : List ℕ) → ((k : ℕ) → getD row k 0 ≡ getD row′ k 0) → (os : List Order) → orderTests os row ≡ orderTests os row′
+pairs-same : (row row′ : List ℕ) → ((k : ℕ) → getD row k 0 ≡ getD row′ k 0) → (ss : List Shape) (os : List Order) → orderTests ss os row ≡ orderTests ss os row′
 unfolding orderTests
-pairs-same row row′ same [] = refl
-pairs-same row row′ same (o ∷ os) = ap₂ _∷_ (rw (same (o .lesser), same (o .greater))) (pairs-same row row′ same os)
+pairs-same row row′ same ss [] = refl
+pairs-same row row′ same ss (o ∷ os) = ap₂ _∷_ (rw (same (placeIn ss (o .lesser)), same (placeIn ss (o .greater)))) (pairs-same row row′ same ss os)
 
-pub fault-same : (way : Way) (section : ℕ) (row row′ : List ℕ) → ((k : ℕ) → getD row k 0 ≡ getD row′ k 0) → rowFault way section row ≡ rowFault way section row′
-unfolding rowFault
-fault-same way section row row′ same =
-    let ss = layout section in
+pub fault-same : (way : Way) (kind : ℕ) (row row′ : List ℕ) → ((k : ℕ) → getD row k 0 ≡ getD row′ k 0) → rowFault way kind row ≡ rowFault way kind row′
+unfolding rowFaultIn
+fault-same way kind row row′ same =
+    let ss = layout kind in
     let fields : fieldTests way ss row ≡ fieldTests way ss row′ =
     ext-getD true (fieldTests way ss row) (fieldTests way ss row′)
     (length-field-tests way ss row ∙ sym (length-field-tests way ss row′))
@@ -208,7 +209,7 @@ fault-same way section row row′ same =
     field-test-at way ss row k low
     ∙ ap (λ (n : ℕ). isSome (convert way (getD ss k blank) n)) (same k)
     ∙ sym (field-test-at way ss row′ k low)) in
-    rw (fields, pairs-same row row′ same (orders section))
+    rw (fields, pairs-same row row′ same (layout kind) (orders kind))
 
-pub fault-wide : (way : Way) (section : ℕ) (row : List ℕ) → rowFault way section (wide row) ≡ rowFault way section row
-fault-wide way section row = fault-same way section (wide row) row (wide-at row)
+pub fault-wide : (way : Way) (kind : ℕ) (row : List ℕ) → rowFault way kind (wide row) ≡ rowFault way kind row
+fault-wide way kind row = fault-same way kind (wide row) row (wide-at row)

@@ -39,7 +39,7 @@ between-was low high n v e =
     (range .0, range .1, given .1)
 
 -- a number is stored as it is meant
-pub number-was : (way : Way) (s : Shape) (low high n v : ℕ) → s .1 ≡ Number low high → convert way s n ≡ some v → (low ≤ n) × (n ≤ high) × (n ≡ v)
+pub number-was : (way : Way) (s : Shape) (low high n v : ℕ) → s .kind ≡ Number low high → convert way s n ≡ some v → (low ≤ n) × (n ≤ high) × (n ≡ v)
 unfolding convert meaning storedAs
 number-was Reading s low high n v is e = between-was low high n v (rw is at e)
 number-was Writing s low high n v is e = between-was low high n v (rw is at e)
@@ -61,10 +61,10 @@ padding-was : (n v : ℕ) → meaning Padding n ≡ some v → (n ≡ 0) × (v �
 unfolding meaning
 padding-was n v e = let given = pick-gave (eqb n 0) 0 v e in (eqb-true n 0 (given .0), sym (given .1))
 
-pub padding-converted : (way : Way) (s : Shape) (n v : ℕ) → s .1 ≡ Padding → convert way s n ≡ some v → (n ≡ 0) × (v ≡ 0)
+pub padding-converted : (way : Way) (s : Shape) (n v : ℕ) → s .kind ≡ Padding → convert way s n ≡ some v → (n ≡ 0) × (v ≡ 0)
 unfolding convert
 padding-converted Reading s n v is e = padding-was n v (rw is at e)
-padding-converted Writing s n v is e = padding-was n v (sym (padding-stored (s .0) n) ∙ rw is at e)
+padding-converted Writing s n v is e = padding-was n v (sym (padding-stored (s .width) n) ∙ rw is at e)
 
 pub reference-is : (width v : ℕ) → pick (within 0 (2 ^ width - 1) v) (some v) none ≡ storedAs Reference width v
 unfolding storedAs
@@ -186,11 +186,11 @@ meant-again Speed width v n t e =
     (rw is (⊎-elim (λ h. omega arith) (λ h. omega arith) code), speed-meant n v code)
 
 -- what was read from a field and fits it, written to it again
-pub write-after-read : (s : Shape) (n v : ℕ) → n < 2 ^ (s .0) → convert Reading s n ≡ some v → convert Writing s v ≡ some n
+pub write-after-read : (s : Shape) (n v : ℕ) → n < 2 ^ (s .width) → convert Reading s n ≡ some v → convert Writing s v ≡ some n
 unfolding convert
-write-after-read s n v h e = stored-again (s .1) (s .0) n v h e
+write-after-read s n v h e = stored-again (s .kind) (s .width) n v h e
 
 -- what was written to a sane field fits it, and is read again
-pub read-after-write : (s : Shape) (v n : ℕ) → T (sane s) → convert Writing s v ≡ some n → (n < 2 ^ (s .0)) × (convert Reading s n ≡ some v)
+pub read-after-write : (s : Shape) (v n : ℕ) → T (sane s) → convert Writing s v ≡ some n → (n < 2 ^ (s .width)) × (convert Reading s n ≡ some v)
 unfolding convert sane
-read-after-write s v n t e = meant-again (s .1) (s .0) v n (right (leb (s .0) 32) (roomy (s .1) (s .0)) t) e
+read-after-write s v n t e = meant-again (s .kind) (s .width) v n (right (leb (s .width) 32) (roomy (s .kind) (s .width)) t) e

@@ -1,6 +1,6 @@
 -- The layouts are sane: what each field and each section must be is tested once over all sections, and antt computes the test.
 -- Assumes nothing.
-use mathlib.Core.Path.{_≡_, refl, sym, _∙_}
+use mathlib.Core.Path.{_≡_, refl, sym, ap, _∙_}
 use mathlib.Core.Bool.{Bool, true, false, _&&_, not, Bool·beq, false≢true}
 use mathlib.Core.List.{List, [], _∷_, map, sum}
 use Prim.Native.Nat.{ℕ, zero, suc, _+_, _*_, _/_, _^_, _≤_, _<_}
@@ -16,8 +16,10 @@ use Rattle.bits.proofs.PartLaws.{total-is}
 use Rattle.layout.specs.declared.Kind.{Kind}
 use Rattle.layout.specs.declared.Kind.the-variants.{Number, Reference, Padding, Gap, LessOne, Speed}
 use Rattle.layout.specs.declared.Shape.{Shape}
-use Rattle.layout.specs.Layout.{header, endSystem, vl, stream, port, hop, layout, blank, orders, widths, size}
-use Rattle.layout.specs.Rows.{listed}
+use Rattle.layout.specs.Layout.{header, endSystem, vl, stream, port, hop, layoutIn, layout, kindsOf, kindOf, blank, orders, widths, size}
+use Rattle.layout.specs.Limits.{limits}
+use Rattle.layout.specs.Fields.{isPadding}
+use Rattle.layout.specs.Rows.{listedIn, listed}
 
 -- ---- one field
 -- a field of this kind and width holds all that is stored in it: numbers up to the greatest, and codes that fill it
@@ -30,7 +32,7 @@ roomy LessOne width = eqb width 2
 roomy Speed width = eqb width 1
 
 unfoldable pub sane : Shape → Bool
-sane s = leb (s .0) 32 && roomy (s .1) (s .0)
+sane s = leb (s .width) 32 && roomy (s .kind) (s .width)
 
 -- ---- all fields of a section
 allSane : List Shape → Bool
@@ -44,14 +46,6 @@ sane-in (s ∷ ss) zero t h = left (sane s) (allSane ss) t
 sane-in (s ∷ ss) (suc k) t h = sane-in ss k (right (sane s) (allSane ss) t) (le-of-suc-le-suc h)
 
 -- ---- a section, by its fields and how many numbers it has in the lists
-unfoldable pub isPadding : Kind → Bool
-isPadding (Number low high) = false
-isPadding Reference = false
-isPadding Padding = true
-isPadding Gap = false
-isPadding LessOne = false
-isPadding Speed = false
-
 is-padding : (kind : Kind) → isPadding kind ≡ true → kind ≡ Padding
 unfolding isPadding
 is-padding (Number low high) e = absurd (false≢true e)
@@ -62,11 +56,11 @@ is-padding LessOne e = absurd (false≢true e)
 is-padding Speed e = absurd (false≢true e)
 
 bitsIn : List Shape → ℕ
-bitsIn ss = sum _+_ 0 (map (λ (s : Shape). s .0) ss)
+bitsIn ss = sum _+_ 0 (map (λ (s : Shape). s .width) ss)
 
 -- field k is in the lists or it is padding
 placed : List Shape → ℕ → ℕ → Bool
-placed ss n k = Bool·beq (ltb k n) (not (isPadding (getD ss k blank .1)))
+placed ss n k = Bool·beq (ltb k n) (not (isPadding (getD ss k blank .kind)))
 
 soundSection : List Shape → ℕ → Bool
 soundSection ss n =
@@ -80,12 +74,12 @@ beq-same false false t = refl
 
 -- ---- there is no section after 5
 pub layout-past : (s : ℕ) → 6 ≤ s → layout s ≡ []
-unfolding layout
-layout-past s h = List·getD-eq-default (header ∷ endSystem ∷ vl ∷ stream ∷ port ∷ hop ∷ []) [] h
+unfolding layoutIn
+layout-past s h = List·getD-eq-default (header limits ∷ endSystem ∷ vl ∷ stream ∷ port ∷ hop ∷ []) [] h
 
 pub listed-past : (s : ℕ) → 6 ≤ s → listed s ≡ 0
-unfolding listed
-listed-past s h = List·getD-eq-default (10 ∷ 1 ∷ 4 ∷ 7 ∷ 3 ∷ 3 ∷ []) 0 h
+unfolding listed listedIn
+listed-past s h = rw (layout-past s h)
 
 -- ---- there is no field after a section's last
 -- a number that is none of those below n, one by one as a `match` leaves it
@@ -102,7 +96,7 @@ no-field ss k h = sym (List·getD-eq-default ss blank (none-below (length ss) k 
 
 -- ---- the test
 all-sound : T (every (λ s. soundSection (layout s) (listed s)) 6)
-unfolding soundSection allSane sane roomy placed isPadding bitsIn sum layout header endSystem vl stream port hop listed
+unfolding soundSection allSane sane roomy placed isPadding bitsIn sum layoutIn header endSystem vl stream port hop listed listedIn
 all-sound = tt
 
 sound : (s : ℕ) → T (soundSection (layout s) (listed s))
@@ -151,9 +145,9 @@ module _ (s : ℕ) where
   pub sane-at : (k : ℕ) → k < length (layout s) → T (sane (getD (layout s) k blank))
   sane-at k h = sane-in (layout s) k (facts .fields) h
 
-  pub narrow : (k : ℕ) → k < length (layout s) → getD (layout s) k blank .0 ≤ 32
+  pub narrow : (k : ℕ) → k < length (layout s) → getD (layout s) k blank .width ≤ 32
   unfolding sane
-  narrow k h = let shape = getD (layout s) k blank in leb→le _ _ (left (leb (shape .0) 32) (roomy (shape .1) (shape .0)) (sane-at k h))
+  narrow k h = let shape = getD (layout s) k blank in leb→le _ _ (left (leb (shape .width) 32) (roomy (shape .kind) (shape .width)) (sane-at k h))
 
   pub few-fields : length (layout s) ≤ 11
   few-fields = facts .few
@@ -163,27 +157,27 @@ module _ (s : ℕ) where
   listed-fields = (facts .fewer, facts .near)
 
   -- and what they do not have is padding, so it is the last
-  pub listed-or-padding : (k : ℕ) → ltb k (listed s) ≡ not (isPadding (getD (layout s) k blank .1))
+  pub listed-or-padding : (k : ℕ) → ltb k (listed s) ≡ not (isPadding (getD (layout s) k blank .kind))
   unfolding placed isPadding
   listed-or-padding k = go (decLt k 11)
     where
-      go : Dec (k < 11) → ltb k (listed s) ≡ not (isPadding (getD (layout s) k blank .1))
+      go : Dec (k < 11) → ltb k (listed s) ≡ not (isPadding (getD (layout s) k blank .kind))
       go (yes h) = beq-same _ _ (at (placed (layout s) (listed s)) 11 (facts .places) k h)
       go (no n) =
           rw (List·getD-eq-default (layout s) blank {n = k} (omega (arith, facts .few)))
           (le-ltb k (listed s) (omega (arith, facts .few, facts .fewer)))
 
-  pub unlisted : (k : ℕ) → listed s ≤ k → getD (layout s) k blank .1 ≡ Padding
+  pub unlisted : (k : ℕ) → listed s ≤ k → getD (layout s) k blank .kind ≡ Padding
   unlisted k h = is-padding _ (not-false _ (sym (listed-or-padding k) ∙ le-ltb k (listed s) h))
 
   -- the widths go by the fields, and fill whole bytes
-  pub widths-at : (k : ℕ) → getD (widths s) k 0 ≡ getD (layout s) k blank .0
+  pub widths-at : (k : ℕ) → getD (widths s) k 0 ≡ getD (layout s) k blank .width
   unfolding widths
-  widths-at k = List·getD-map (λ (x : Shape). x .0) (layout s) k blank
+  widths-at k = List·getD-map (λ (x : Shape). x .width) (layout s) k blank
 
   pub length-widths : length (widths s) ≡ length (layout s)
   unfolding widths
-  length-widths = length-map (layout s) (λ (x : Shape). x .0)
+  length-widths = length-map (layout s) (λ (x : Shape). x .width)
 
   pub whole-bytes : 8 * size s ≡ total (widths s)
   unfolding size widths bitsIn
@@ -191,24 +185,24 @@ module _ (s : ℕ) where
 
 -- ---- the numbers of each section
 -- two numbers of a section are equal if they are in the six sections and past them
-by-section : (f g : ℕ → ℕ) → T (every (λ k. eqb (f k) (g k)) 6) → ((s : ℕ) → 6 ≤ s → f s ≡ g s) → (s : ℕ) → f s ≡ g s
-by-section f g t past s = go (decLt s 6)
+by-kind : (f g : ℕ → ℕ) → T (every (λ k. eqb (f k) (g k)) 6) → ((s : ℕ) → 6 ≤ s → f s ≡ g s) → (s : ℕ) → f s ≡ g s
+by-kind f g t past s = go (decLt s 6)
   where
     go : Dec (s < 6) → f s ≡ g s
     go (yes h) = eqb→eq _ _ (at (λ k. eqb (f k) (g k)) 6 t s h)
     go (no n) = past s (omega arith)
 
 pub fields-are : (s : ℕ) → length (layout s) ≡ getD (11 ∷ 2 ∷ 4 ∷ 8 ∷ 4 ∷ 3 ∷ []) s 0
-unfolding layout header endSystem vl stream port hop
-fields-are = by-section
+unfolding layoutIn header endSystem vl stream port hop
+fields-are = by-kind
     (λ k. length (layout k))
     (λ k. getD (11 ∷ 2 ∷ 4 ∷ 8 ∷ 4 ∷ 3 ∷ []) k 0)
     tt
     (λ k h. rw (layout-past k h) (sym (List·getD-eq-default (11 ∷ 2 ∷ 4 ∷ 8 ∷ 4 ∷ 3 ∷ []) 0 h)))
 
 bits-are : (s : ℕ) → bitsIn (layout s) ≡ 8 * getD (14 ∷ 1 ∷ 3 ∷ 13 ∷ 4 ∷ 4 ∷ []) s 0
-unfolding bitsIn sum layout header endSystem vl stream port hop
-bits-are = by-section
+unfolding bitsIn sum layoutIn header endSystem vl stream port hop
+bits-are = by-kind
     (λ k. bitsIn (layout k))
     (λ k. 8 * getD (14 ∷ 1 ∷ 3 ∷ 13 ∷ 4 ∷ 4 ∷ []) k 0)
     tt
@@ -230,8 +224,34 @@ size-most s = rw (size-is s) (go (decLt s 6))
     go (no n) = rw (List·getD-eq-default l 0 {n = s} (omega arith)) (omega arith)
 
 pub listed-is : (s : ℕ) → listed s ≡ getD (10 ∷ 1 ∷ 4 ∷ 7 ∷ 3 ∷ 3 ∷ []) s 0
-unfolding listed
-listed-is s = refl
+unfolding listed listedIn isPadding layoutIn header endSystem vl stream port hop
+listed-is = by-kind
+    listed
+    (λ k. getD (10 ∷ 1 ∷ 4 ∷ 7 ∷ 3 ∷ 3 ∷ []) k 0)
+    tt
+    (λ k h. rw (listed-past k h) (sym (List·getD-eq-default (10 ∷ 1 ∷ 4 ∷ 7 ∷ 3 ∷ 3 ∷ []) 0 h)))
+
+-- ---- the kinds of a version's sections
+-- so far each version has those of version 1
+pub kind-first : (version s : ℕ) → s < 6 → kindOf version s ≡ s
+unfolding kindOf kindsOf
+kind-first version s h = eqb→eq _ _ (at (λ k. eqb (kindOf version k) k) 6 tt s h)
+
+pub kind-past : (version s : ℕ) → 6 ≤ s → kindOf version s ≡ 6
+unfolding kindOf kindsOf
+kind-past version s h = List·getD-eq-default (0 ∷ 1 ∷ 2 ∷ 3 ∷ 4 ∷ 5 ∷ []) 6 h
+
+-- every version has the same numbers in the lists of a section, and a header of kind 0
+pub listed-same : (version s : ℕ) → listed (kindOf version s) ≡ listed s
+listed-same version s = go (decLt s 6)
+  where
+    go : Dec (s < 6) → listed (kindOf version s) ≡ listed s
+    go (yes h) = ap listed (kind-first version s h)
+    go (no n) = ap listed (kind-past version s (omega arith)) ∙ listed-past 6 (omega arith) ∙ sym (listed-past s (omega arith))
+
+pub header-kind : (version : ℕ) → kindOf version 0 ≡ 0
+unfolding kindOf kindsOf
+header-kind version = refl
 
 -- ---- section by section
 -- pairs that are in order have the header, streams and ports

@@ -16,7 +16,7 @@ use Rattle.bits.proofs.PartLaws.{fit-at, fit-of}
 use Rattle.bits.proofs.RecordLaws.{fit-read}
 use Rattle.layout.specs.declared.Fault.{Fault}
 use Rattle.layout.specs.declared.Fault.the-variants.{Test, Nothing}
-use Rattle.layout.specs.Layout.{layout, header, widths}
+use Rattle.layout.specs.Layout.{layoutIn, header, widths}
 use Rattle.base.specs.Tests.{isSome, numberOr0}
 use Rattle.layout.specs.Rows.{rowRoom, rowAt}
 use Rattle.layout.specs.Contracts.{wide, faultOf}
@@ -29,16 +29,16 @@ fit-zeros ws =
     fit-of ws (replicate (length ws) 0) (length-replicate (length ws) 0)
     (λ i h. rw (getD-replicate {A = ℕ} (length ws) i 0 0 h) (pow-pos (getD ws i 0)))
 
-pub fit-row : (bytes : List ℕ) (a section : ℕ) → Fit (widths section) (rowAt bytes a section)
-fit-row bytes a section = go (rowRoom (length bytes) a (widths section)) refl
+pub fit-row : (bytes : List ℕ) (a kind : ℕ) → Fit (widths kind) (rowAt bytes a kind)
+fit-row bytes a kind = go (rowRoom (length bytes) a (widths kind)) refl
   where
-    go : (t : Bool) → rowRoom (length bytes) a (widths section) ≡ t → Fit (widths section) (rowAt bytes a section)
-    go true e = rw (row-there bytes a section e) (fit-read bytes a (widths section))
-    go false e = rw (row-none bytes a section e) (fit-zeros (widths section))
+    go : (t : Bool) → rowRoom (length bytes) a (widths kind) ≡ t → Fit (widths kind) (rowAt bytes a kind)
+    go true e = rw (row-there bytes a kind e) (fit-read bytes a (widths kind))
+    go false e = rw (row-none bytes a kind e) (fit-zeros (widths kind))
 
 -- a count of rows, for one, has at most 12 bits
 few-bits : (s : ℕ) → s < 6 → 2 ^ getD (widths 0) s 0 ≤ 4096
-unfolding widths layout header
+unfolding widths layoutIn header
 few-bits s h = leb→le _ _ (at (λ k. leb (2 ^ getD (widths 0) k 0) 4096) 6 tt s h)
 
 pub count-lt : (bytes : List ℕ) (a s : ℕ) → s < 6 → getD (rowAt bytes a 0) s 0 < 4096

@@ -47,68 +47,68 @@ unfolding rowRoom
 last-row n a l ws h f g = rw (le-leb n (2 ^ 32) h) (same-test a l (a + total ws) (8 * n) f g)
 
 -- ---- the row
-module _ (bytes : List ℕ) (a section : ℕ) where
-  pub row-there : rowRoom (length bytes) a (widths section) ≡ true → rowAt bytes a section ≡ readAll bytes a (widths section)
+module _ (bytes : List ℕ) (a kind : ℕ) where
+  pub row-there : rowRoom (length bytes) a (widths kind) ≡ true → rowAt bytes a kind ≡ readAll bytes a (widths kind)
   unfolding rowAt
   row-there e = rw e
 
-  pub row-none : rowRoom (length bytes) a (widths section) ≡ false → rowAt bytes a section ≡ replicate (length (widths section)) 0
+  pub row-none : rowRoom (length bytes) a (widths kind) ≡ false → rowAt bytes a kind ≡ replicate (length (widths kind)) 0
   unfolding rowAt
   row-none e = rw e
 
-  pub put-there : (raw : List ℕ) → rowRoom (length bytes) a (widths section) ≡ true → withRowAt bytes a section raw ≡ putAll bytes a (widths section) raw
+  pub put-there : (raw : List ℕ) → rowRoom (length bytes) a (widths kind) ≡ true → withRowAt bytes a kind raw ≡ putAll bytes a (widths kind) raw
   unfolding withRowAt
   put-there raw e = rw e
 
-  pub put-none : (raw : List ℕ) → rowRoom (length bytes) a (widths section) ≡ false → withRowAt bytes a section raw ≡ bytes
+  pub put-none : (raw : List ℕ) → rowRoom (length bytes) a (widths kind) ≡ false → withRowAt bytes a kind raw ≡ bytes
   unfolding withRowAt
   put-none raw e = rw e
 
   -- field k of the row, which begins where the fields before it end
-  pub field-room : (k : ℕ) → rowRoom (length bytes) a (widths section) ≡ true → k < length (layout section)
-      → Room bytes (a + total (take k (widths section))) (getD (layout section) k blank .0)
+  pub field-room : (k : ℕ) → rowRoom (length bytes) a (widths kind) ≡ true → k < length (layout kind)
+      → Room bytes (a + total (take k (widths kind))) (getD (layout kind) k blank .width)
   field-room k e h =
-      let was = room-was (length bytes) a (widths section) e in
-      let n = length-widths section in
-      let w = widths-at section k in
-      let more = total-more (widths section) k (omega arith) in
-      let all = total-le (widths section) (k + 1) in
-      record { narrow = narrow section k h; inside = omega arith; short = was .0 }
+      let was = room-was (length bytes) a (widths kind) e in
+      let n = length-widths kind in
+      let w = widths-at kind k in
+      let more = total-more (widths kind) k (omega arith) in
+      let all = total-le (widths kind) (k + 1) in
+      record { narrow = narrow kind k h; inside = omega arith; short = was .0 }
 
 -- ---- what is read and written
-module _ (bytes : List ℕ) (a section : ℕ) where
+module _ (bytes : List ℕ) (a kind : ℕ) where
   -- the tests are the same for the bytes with another row, which are as many
-  pub length-with : (raw : List ℕ) → length (withRowAt bytes a section raw) ≡ length bytes
-  length-with raw = go (rowRoom (length bytes) a (widths section)) refl
+  pub length-with : (raw : List ℕ) → length (withRowAt bytes a kind raw) ≡ length bytes
+  length-with raw = go (rowRoom (length bytes) a (widths kind)) refl
     where
-      go : (t : Bool) → rowRoom (length bytes) a (widths section) ≡ t → length (withRowAt bytes a section raw) ≡ length bytes
-      go true e = rw (put-there bytes a section raw e) (length-put-all bytes a (widths section) raw)
-      go false e = rw (put-none bytes a section raw e)
+      go : (t : Bool) → rowRoom (length bytes) a (widths kind) ≡ t → length (withRowAt bytes a kind raw) ≡ length bytes
+      go true e = rw (put-there bytes a kind raw e) (length-put-all bytes a (widths kind) raw)
+      go false e = rw (put-none bytes a kind raw e)
 
   -- the numbers read are those of the section's fields, and fit them
-  pub row-fits : Fit (widths section) (rowAt bytes a section)
-  row-fits = go (rowRoom (length bytes) a (widths section)) refl
+  pub row-fits : Fit (widths kind) (rowAt bytes a kind)
+  row-fits = go (rowRoom (length bytes) a (widths kind)) refl
     where
-      go : (t : Bool) → rowRoom (length bytes) a (widths section) ≡ t → Fit (widths section) (rowAt bytes a section)
-      go true e = rw (row-there bytes a section e) (fit-read bytes a (widths section))
+      go : (t : Bool) → rowRoom (length bytes) a (widths kind) ≡ t → Fit (widths kind) (rowAt bytes a kind)
+      go true e = rw (row-there bytes a kind e) (fit-read bytes a (widths kind))
       go false e =
-          rw (row-none bytes a section e)
-          (fit-of (widths section) (replicate (length (widths section)) 0) (length-replicate (length (widths section)) 0)
-          (λ k h. rw (zero-at (length (widths section)) k) (pow-pos (getD (widths section) k 0))))
+          rw (row-none bytes a kind e)
+          (fit-of (widths kind) (replicate (length (widths kind)) 0) (length-replicate (length (widths kind)) 0)
+          (λ k h. rw (zero-at (length (widths kind)) k) (pow-pos (getD (widths kind) k 0))))
 
   -- zeros past a row are not written
-  pub put-wide : (row : List ℕ) → length row ≡ length (layout section) → withRowAt bytes a section (wide row) ≡ withRowAt bytes a section row
-  put-wide row long = go (rowRoom (length bytes) a (widths section)) refl
+  pub put-wide : (row : List ℕ) → length row ≡ length (layout kind) → withRowAt bytes a kind (wide row) ≡ withRowAt bytes a kind row
+  put-wide row long = go (rowRoom (length bytes) a (widths kind)) refl
     where
-      same : length row ≡ length (widths section)
-      same = long ∙ sym (length-widths section)
+      same : length row ≡ length (widths kind)
+      same = long ∙ sym (length-widths kind)
 
-      enough : length (widths section) ≤ length (wide row)
-      enough = omega (arith, same, few-fields section, length-wide row (omega (arith, few-fields section)))
+      enough : length (widths kind) ≤ length (wide row)
+      enough = omega (arith, same, few-fields kind, length-wide row (omega (arith, few-fields kind)))
 
-      go : (t : Bool) → rowRoom (length bytes) a (widths section) ≡ t → withRowAt bytes a section (wide row) ≡ withRowAt bytes a section row
-      go false e = put-none bytes a section (wide row) e ∙ sym (put-none bytes a section row e)
+      go : (t : Bool) → rowRoom (length bytes) a (widths kind) ≡ t → withRowAt bytes a kind (wide row) ≡ withRowAt bytes a kind row
+      go false e = put-none bytes a kind (wide row) e ∙ sym (put-none bytes a kind row e)
       go true e =
-          rw (put-there bytes a section (wide row) e, put-there bytes a section row e)
-          (sym (put-first bytes a (widths section) (wide row) enough)
-          ∙ rw (← same) (ap (putAll bytes a (widths section)) (take-wide row)))
+          rw (put-there bytes a kind (wide row) e, put-there bytes a kind row e)
+          (sym (put-first bytes a (widths kind) (wide row) enough)
+          ∙ rw (← same) (ap (putAll bytes a (widths kind)) (take-wide row)))

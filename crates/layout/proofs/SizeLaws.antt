@@ -1,12 +1,17 @@
 -- The sizes of `layout::sizes` are those that the definitions say by the section: computed once, here. Limits and places stand as numerals in no other law.
 -- Assumes nothing.
-use Prim.Native.Nat.{ℕ, _-_, _<_}
+use Prim.Native.Nat.{ℕ, zero, suc, _≤_}
 use mathlib.Core.Path.{_≡_, refl}
+use native.Mathlib.Decide.{decLt}
 use native.Mathlib.Omega.{arith}
 use Rattle.base.specs.Tabulate.{total}
-use Rattle.layout.specs.Layout.{header, endSystem, vl, stream, port, hop, layout, widths, size}
-use Rattle.layout.specs.Rows.{listed}
-use Rattle.layout.specs.Sizes.{greatestOf, most, capacity, place, mostBytes}
+use Rattle.layout.specs.Limits.{mostIn, most}
+use Rattle.layout.specs.Fields.{isPadding}
+use Rattle.layout.specs.declared.Name.the-variants as name
+use Rattle.layout.specs.Names.{numberOf, indexIn}
+use Rattle.layout.specs.Layout.{header, endSystem, vl, stream, port, hop, layoutIn, placeOf, widths, size}
+use Rattle.layout.specs.Rows.{listedIn, listed}
+use Rattle.layout.specs.Sizes.{capacity, place, mostBytes}
 
 pub record Most : Type 0 where
   pub systems : most 1 ≡ 64
@@ -16,7 +21,7 @@ pub record Most : Type 0 where
   pub hops : most 5 ≡ 1024
 
 pub most-are : Most
-unfolding most greatestOf header
+unfolding mostIn
 most-are = record { systems = refl; vls = refl; streams = refl; ports = refl; hops = refl }
 
 pub record Places : Type 0 where
@@ -28,31 +33,73 @@ pub record Places : Type 0 where
   pub end : place 6 ≡ 8137
 
 pub places-are : Places
-unfolding place capacity most greatestOf header listed
+unfolding place capacity mostIn listed listedIn isPadding layoutIn header endSystem vl stream port hop
 places-are = record { systems = refl; vls = refl; streams = refl; ports = refl; hops = refl; end = refl }
 
--- what is between two places is the capacity of the section there
-abbrev Between : ℕ → ℕ → ℕ → Type 0
-Between s a b = (s < 6) × (b - a ≡ capacity s)
-
-pub record Sizes : Type 0 where
-  pub systems : Between 1 9 73
-  pub vls : Between 2 73 1097
-  pub streams : Between 3 1097 4681
-  pub ports : Between 4 4681 5065
-  pub hops : Between 5 5065 8137
-
-pub sizes-are : Sizes
-unfolding capacity most greatestOf header listed
-sizes-are = record {
-  systems = (omega arith, refl);
-  vls = (omega arith, refl);
-  streams = (omega arith, refl);
-  ports = (omega arith, refl);
-  hops = (omega arith, refl);
-}
+-- a section's list ends before the next begins
+pub place-le : (s t : ℕ) → s ≤ t → place s ≤ place t
+unfolding place
+place-le s zero h = let e : s ≡ 0 = omega arith in rw e (omega arith)
+place-le s (suc t) h = elim (decLt s (suc t)) [
+  | yes l ↦ omega (arith, place-le s t (omega arith))
+  | no n ↦ let e : s ≡ suc t = omega arith in rw e (omega arith)
+]
 
 -- the longest table
 pub longest-table : mostBytes 5 ≡ 12110
-unfolding mostBytes most greatestOf size widths layout header endSystem vl stream port hop total
+unfolding mostBytes mostIn size widths layoutIn header endSystem vl stream port hop total
 longest-table = refl
+
+-- ---- where each field stands: the constants of `layout::places`
+pub record FieldPlaces : Type 0 where
+  pub version : placeOf 0 name.Version ≡ 0
+  pub send-least : placeOf 0 name.SendLeast ≡ 6
+  pub send-greatest : placeOf 0 name.SendGreatest ≡ 7
+  pub receive-least : placeOf 0 name.ReceiveLeast ≡ 8
+  pub receive-greatest : placeOf 0 name.ReceiveGreatest ≡ 9
+  pub system-speed : placeOf 1 name.Speed ≡ 0
+  pub vl-system : placeOf 2 name.EndSystem ≡ 0
+  pub vl-gap : placeOf 2 name.Gap ≡ 1
+  pub vl-sub-links : placeOf 2 name.SubLinks ≡ 2
+  pub vl-lmax : placeOf 2 name.Lmax ≡ 3
+  pub stream-vl : placeOf 3 name.Vl ≡ 0
+  pub stream-sub-link : placeOf 3 name.SubLink ≡ 1
+  pub stream-kind : placeOf 3 name.Kind ≡ 2
+  pub stream-size : placeOf 3 name.Size ≡ 3
+  pub stream-least-size : placeOf 3 name.LeastSize ≡ 4
+  pub stream-period : placeOf 3 name.Period ≡ 5
+  pub stream-jitter : placeOf 3 name.Jitter ≡ 6
+  pub port-speed : placeOf 4 name.Speed ≡ 0
+  pub port-least : placeOf 4 name.SwitchLeast ≡ 1
+  pub port-greatest : placeOf 4 name.SwitchGreatest ≡ 2
+  pub hop-vl : placeOf 5 name.Vl ≡ 0
+  pub hop-port : placeOf 5 name.Port ≡ 1
+  pub hop-parent : placeOf 5 name.Parent ≡ 2
+
+pub field-places : FieldPlaces
+unfolding indexIn numberOf layoutIn header endSystem vl stream port hop
+field-places = record {
+  version = refl;
+  send-least = refl;
+  send-greatest = refl;
+  receive-least = refl;
+  receive-greatest = refl;
+  system-speed = refl;
+  vl-system = refl;
+  vl-gap = refl;
+  vl-sub-links = refl;
+  vl-lmax = refl;
+  stream-vl = refl;
+  stream-sub-link = refl;
+  stream-kind = refl;
+  stream-size = refl;
+  stream-least-size = refl;
+  stream-period = refl;
+  stream-jitter = refl;
+  port-speed = refl;
+  port-least = refl;
+  port-greatest = refl;
+  hop-vl = refl;
+  hop-port = refl;
+  hop-parent = refl;
+}

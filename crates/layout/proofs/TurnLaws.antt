@@ -44,65 +44,65 @@ pub filled-all : (row out : List ℕ) (k : ℕ) → length row ≤ k → out ≡
 filled-all row out k h e = e ∙ ap wide (take-all k row h)
 
 -- ---- a number converted
-module _ (way : Way) (section : ℕ) (row : List ℕ) (k : ℕ) (s : Shape) (x : Reply) (is : s ≡ getD (layout section) k blank)
+module _ (way : Way) (kind : ℕ) (row : List ℕ) (k : ℕ) (s : Shape) (x : Reply) (is : s ≡ getD (layout kind) k blank)
     (told : said x ≡ ruled (convert way s (getD row k 0))) where
-  by-shape : said x ≡ ruled (convert way (getD (layout section) k blank) (getD row k 0))
+  by-shape : said x ≡ ruled (convert way (getD (layout kind) k blank) (getD row k 0))
   by-shape = rw is at told
 
-  pub number-more : (v : ℕ) → k < length (layout section) → v ≡ getD (said x .values) 0 0 → v ≡ getD (converted way (layout section) row) k 0
-  number-more v h e = e ∙ value-of x _ by-shape ∙ sym (converted-at way (layout section) row k h)
+  pub number-more : (v : ℕ) → k < length (layout kind) → v ≡ getD (said x .values) 0 0 → v ≡ getD (converted way (layout kind) row) k 0
+  number-more v h e = e ∙ value-of x _ by-shape ∙ sym (converted-at way (layout kind) row k h)
 
   -- ---- a number tested
-  pub refused-here : eqb (said x .number) 4 ≡ true → isSome (convert way (getD (layout section) k blank) (getD row k 0)) ≡ false
+  pub refused-here : eqb (said x .number) 4 ≡ true → isSome (convert way (getD (layout kind) k blank) (getD row k 0)) ≡ false
   refused-here e = not-true _ (sym (refusal-of x _ by-shape) ∙ e)
 
-  pub good-more : GoodTo way section row k → eqb (said x .number) 4 ≡ false → GoodTo way section row (k + 1)
+  pub good-more : GoodTo way kind row k → eqb (said x .number) 4 ≡ false → GoodTo way kind row (k + 1)
   good-more good e i h = ⊎-elim
       (λ (same : i ≡ k). rw same (not-false _ (sym (refusal-of x _ by-shape) ∙ e)))
       (λ (low : i < k). good i low)
       (eq-or-lt-of-le (omega arith))
 
 -- ---- a field read or written
-module _ (bytes : List ℕ) (a section k : ℕ) (room : rowRoom (length bytes) a (widths section) ≡ true) (h : k < length (layout section))
-    (s : Shape) (is : s ≡ getD (layout section) k blank) (b : ℕ) (at : b ≡ a + total (take k (widths section))) where
-  low : k < length (widths section)
-  low = omega (arith, length-widths section)
+module _ (bytes : List ℕ) (a kind k : ℕ) (room : rowRoom (length bytes) a (widths kind) ≡ true) (h : k < length (layout kind))
+    (s : Shape) (is : s ≡ getD (layout kind) k blank) (b : ℕ) (at : b ≡ a + total (take k (widths kind))) where
+  low : k < length (widths kind)
+  low = omega (arith, length-widths kind)
 
-  next-total : a + total (take k (widths section)) + s .0 ≡ a + total (take (k + 1) (widths section))
-  next-total = rw is (omega (arith, total-more (widths section) k low, widths-at section k))
+  next-total : a + total (take k (widths kind)) + s .width ≡ a + total (take (k + 1) (widths kind))
+  next-total = rw is (omega (arith, total-more (widths kind) k low, widths-at kind k))
 
-  same-width : s .0 ≡ getD (widths section) k 0
-  same-width = ap (λ (x : Shape). x .0) is ∙ sym (widths-at section k)
+  same-width : s .width ≡ getD (widths kind) k 0
+  same-width = ap (λ (x : Shape). x .width) is ∙ sym (widths-at kind k)
 
-  pub read-more : (r : Field) → r ≡ fieldOf bytes b (s .0)
-      → (r .next .at ≡ a + total (take (k + 1) (widths section))) × (r .value ≡ getD (readAll bytes a (widths section)) k 0)
+  pub read-more : (r : Field) → r ≡ fieldOf bytes b (s .width)
+      → (r .next .at ≡ a + total (take (k + 1) (widths kind))) × (r .value ≡ getD (readAll bytes a (widths kind)) k 0)
   read-more r e =
-      let got = field-next bytes (a + total (take k (widths section))) b (s .0) r e at (rw is (field-room bytes a section k room h)) in (
+      let got = field-next bytes (a + total (take k (widths kind))) b (s .width) r e at (rw is (field-room bytes a kind k room h)) in (
         got .1 ∙ next-total,
-        got .0 ∙ ap (fieldAt bytes (a + total (take k (widths section)))) same-width ∙ sym (read-at bytes a (widths section) k low),
+        got .0 ∙ ap (fieldAt bytes (a + total (take k (widths kind)))) same-width ∙ sym (read-at bytes a (widths kind) k low),
       )
 
-  pub write-more : (now next row : List ℕ) (c : Cursor) → k < length row → now ≡ putAll bytes a (take k (widths section)) (take k row)
-      → (c ≡ nextPlace now b (s .0)) × (next ≡ putOf now b (s .0) (getD row k 0))
-      → (c .at ≡ a + total (take (k + 1) (widths section))) × (next ≡ putAll bytes a (take (k + 1) (widths section)) (take (k + 1) row))
+  pub write-more : (now next row : List ℕ) (c : Cursor) → k < length row → now ≡ putAll bytes a (take k (widths kind)) (take k row)
+      → (c ≡ nextPlace now b (s .width)) × (next ≡ putOf now b (s .width) (getD row k 0))
+      → (c .at ≡ a + total (take (k + 1) (widths kind))) × (next ≡ putAll bytes a (take (k + 1) (widths kind)) (take (k + 1) row))
   write-more now next row c l is-now e =
-      let long : length now ≡ length bytes = rw is-now (length-put-all bytes a (take k (widths section)) (take k row)) in
-      let room-now : rowRoom (length now) a (widths section) ≡ true = rw long room in
+      let long : length now ≡ length bytes = rw is-now (length-put-all bytes a (take k (widths kind)) (take k row)) in
+      let room-now : rowRoom (length now) a (widths kind) ≡ true = rw long room in
       let got =
-      put-next now next (a + total (take k (widths section))) b (s .0) (getD row k 0) c e at (rw is (field-room now a section k room-now h)) in
-      (got .0 ∙ next-total, got .1 ∙ rw (same-width, is-now) (sym (put-more bytes a (widths section) row k low l)))
+      put-next now next (a + total (take k (widths kind))) b (s .width) (getD row k 0) c e at (rw is (field-room now a kind k room-now h)) in
+      (got .0 ∙ next-total, got .1 ∙ rw (same-width, is-now) (sym (put-more bytes a (widths kind) row k low l)))
 
 -- ---- all fields
-module _ (bytes : List ℕ) (a section k : ℕ) (room : rowRoom (length bytes) a (widths section) ≡ true) (h : length (layout section) ≤ k) where
-  pub read-all : (out : List ℕ) → out ≡ wide (take k (readAll bytes a (widths section))) → out ≡ wide (rowAt bytes a section)
+module _ (bytes : List ℕ) (a kind k : ℕ) (room : rowRoom (length bytes) a (widths kind) ≡ true) (h : length (layout kind) ≤ k) where
+  pub read-all : (out : List ℕ) → out ≡ wide (take k (readAll bytes a (widths kind))) → out ≡ wide (rowAt bytes a kind)
   read-all out e =
-      rw (row-there bytes a section room)
-      (filled-all (readAll bytes a (widths section)) out k (omega (arith, length-read bytes a (widths section), length-widths section)) e)
+      rw (row-there bytes a kind room)
+      (filled-all (readAll bytes a (widths kind)) out k (omega (arith, length-read bytes a (widths kind), length-widths kind)) e)
 
-  pub written-all : (now row : List ℕ) → k ≤ length (layout section) → length (layout section) ≤ length row
-      → now ≡ putAll bytes a (take k (widths section)) (take k row) → now ≡ withRowAt bytes a section row
+  pub written-all : (now row : List ℕ) → k ≤ length (layout kind) → length (layout kind) ≤ length row
+      → now ≡ putAll bytes a (take k (widths kind)) (take k row) → now ≡ withRowAt bytes a kind row
   written-all now row l enough e =
-      let n = length-widths section in
-      let same : k ≡ length (widths section) = omega arith in
+      let n = length-widths kind in
+      let same : k ≡ length (widths kind) = omega arith in
       e
-      ∙ rw (same, take-length (widths section), put-there bytes a section row room) (put-first bytes a (widths section) row (omega arith))
+      ∙ rw (same, take-length (widths kind), put-there bytes a kind row room) (put-first bytes a (widths kind) row (omega arith))

@@ -12,6 +12,12 @@ use Rattle.layout.proofs.numbers_in.Kinds as numbers-kinds
 use Rattle.layout.proofs.numbers_in.Reads as numbers-reads
 use Rattle.layout.proofs.bytes_in.Kinds as bytes-kinds
 use Rattle.layout.proofs.bytes_in.Reads as bytes-reads
+use Rattle.layout.proofs.kind_of.Kinds as kind-kinds
+use Rattle.layout.proofs.kind_of.Reads as kind-reads
+use Rattle.layout.proofs.longest_table.Kinds as longest-kinds
+use Rattle.layout.proofs.longest_table.Reads as longest-reads
+use Rattle.layout.proofs.shapes.shape_at.Kinds as shape-kinds
+use Rattle.layout.proofs.shapes.shape_at.Reads as shape-reads
 use Rattle.layout.proofs.row_at.Kinds as row-kinds
 use Rattle.layout.proofs.row_at.Reads as row-reads
 use Rattle.layout.proofs.put_row.Kinds as put-kinds
@@ -29,6 +35,15 @@ numbers κs a x y ws vs p q = (p ∙ sym q, refl)
 
 pub bytes : Settles 0 bytes-kinds.ps bytes-kinds.r bytes-reads.Post
 bytes κs a x y ws vs p q = (p ∙ sym q, refl)
+
+pub kind : Settles 0 kind-kinds.ps kind-kinds.r kind-reads.Post
+kind κs a x y ws vs p q = (p ∙ sym q, refl)
+
+pub longest : Settles 0 longest-kinds.ps longest-kinds.r longest-reads.Post
+longest κs a x y ws vs p q = (p ∙ sym q, refl)
+
+pub shape : Settles 0 shape-kinds.ps shape-kinds.r shape-reads.Post
+shape κs a x y ws vs p q = (p ∙ sym q, refl)
 
 pub row : Settles 1 row-kinds.ps row-kinds.r row-reads.Post
 row κs a x y ws vs p q = (p ∙ sym q, refl)

@@ -31,11 +31,11 @@ wide-full row e =
     ap (λ (m : ℕ). row ++ replicate m 0) none ∙ append-nil row
 
 -- a row that has a number for each field, written where there is room for it
-pub put-wide : (bytes : List ℕ) (a section : ℕ) (raw : List ℕ) → length bytes ≤ 2 ^ 32 → a + total (widths section) ≤ 8 * length bytes
-    → length raw ≡ length (layout section) → withRowAt bytes a section (wide raw) ≡ putAll bytes a (widths section) raw
+pub put-wide : (bytes : List ℕ) (a kind : ℕ) (raw : List ℕ) → length bytes ≤ 2 ^ 32 → a + total (widths kind) ≤ 8 * length bytes
+    → length raw ≡ length (layout kind) → withRowAt bytes a kind (wide raw) ≡ putAll bytes a (widths kind) raw
 unfolding wide
-put-wide bytes a section raw short room long =
-    let n = length-widths section in
-    put-there bytes a section (wide raw) (room-yes (length bytes) a (widths section) short room)
-    ∙ sym (put-first bytes a (widths section) (wide raw) (omega (arith, length-wide raw (omega (arith, few-fields section)), few-fields section)))
-    ∙ ap (putAll bytes a (widths section)) (take-at raw (replicate (11 - length raw) 0) (length (widths section)) (long ∙ sym n))
+put-wide bytes a kind raw short room long =
+    let n = length-widths kind in
+    put-there bytes a kind (wide raw) (room-yes (length bytes) a (widths kind) short room)
+    ∙ sym (put-first bytes a (widths kind) (wide raw) (omega (arith, length-wide raw (omega (arith, few-fields kind)), few-fields kind)))
+    ∙ ap (putAll bytes a (widths kind)) (take-at raw (replicate (11 - length raw) 0) (length (widths kind)) (long ∙ sym n))

@@ -15,15 +15,15 @@ use Rattle.layout.specs.Rows.{rowRoom, orderTests}
 
 -- the bytes with these stored numbers for that row; unchanged where there is no such row
 unfoldable pub withRowAt : List ℕ → ℕ → ℕ → List ℕ → List ℕ
-withRowAt bytes a section raw = pick (rowRoom (length bytes) a (widths section)) (putAll bytes a (widths section) raw) bytes
+withRowAt bytes a kind raw = pick (rowRoom (length bytes) a (widths kind)) (putAll bytes a (widths kind) raw) bytes
 
 -- a row in an array that has room for the 11 fields of the longest
 unfoldable pub wide : List ℕ → List ℕ
 wide row = row ++ replicate (11 - length row) 0
 
--- the first pair of fields of a section that are not in order, by its place behind the fields
+-- the first pair of fields of a record that are not in order, by its place behind the fields
 unfoldable pub orderFault : ℕ → List ℕ → Option ℕ
-orderFault section row = Option·map (λ (i : ℕ). length (layout section) + i) (firstFailing (orderTests (orders section) row))
+orderFault kind row = Option·map (λ (i : ℕ). length (layout kind) + i) (firstFailing (orderTests (layout kind) (orders kind) row))
 
 -- what the answer of a test stands for
 unfoldable pub faultOf : Fault → Option ℕ

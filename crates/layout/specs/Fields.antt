@@ -2,6 +2,7 @@
 -- milliseconds, speeds in Mbit/s, sub-links from 1.
 -- Assumes nothing.
 use Prim.Native.Nat.{ℕ, _+_, _-_, _^_}
+use mathlib.Core.Bool.{Bool, true, false}
 use mathlib.Core.Option.{Option, none, some}
 use lib.Dec.{ltb, eqb}
 use Rattle.base.specs.Pick.{pick, within}
@@ -11,6 +12,15 @@ use Rattle.layout.specs.declared.Kind.the-variants.{Number, Reference, P
 use Rattle.layout.specs.declared.Shape.{Shape}
 use Rattle.layout.specs.declared.Way.{Way}
 use Rattle.layout.specs.declared.Way.the-variants.{Reading, Writing}
+
+-- padding is in no list
+unfoldable pub isPadding : Kind → Bool
+isPadding (Number low high) = false
+isPadding Reference = false
+isPadding Padding = true
+isPadding Gap = false
+isPadding LessOne = false
+isPadding Speed = false
 
 -- what a stored number means; none where it is out of range
 unfoldable pub meaning : Kind → ℕ → Option ℕ
@@ -37,5 +47,5 @@ storedAs Speed width v = pick (eqb v 100) (some 0) (pick (eqb v 10) (some 1) non
 
 -- the one or the other
 unfoldable pub convert : Way → Shape → ℕ → Option ℕ
-convert Reading s n = meaning (s .1) n
-convert Writing s v = storedAs (s .1) (s .0) v
+convert Reading s n = meaning (s .kind) n
+convert Writing s v = storedAs (s .kind) (s .width) v

@@ -1,3 +1,5 @@
+pub mod Limits
+pub mod Names
 pub mod Layout
 pub mod Fields
 pub mod Rows

@@ -1,12 +1,15 @@
 // The layout of the packed table as data, and a record of it as a row of numbers: read, tested, meant, stored and written.
-// One body serves every section: what differs between sections stands in `shapes`, and in the three sizes and the order of fields below.
+// One body serves every kind of record: what differs between kinds stands in `shapes`, and in the three sizes and the order of fields below.
+pub mod places;
 mod shapes;
 pub mod sizes;
 
 use bits::Cursor;
 use frame::Reply;
-use shapes::shape_at;
+pub use shapes::shape_at;
+use sizes::KINDS;
 use sizes::LONGEST;
+use sizes::TABLE;
 ghost use mathlib.Core.Path.{_≡_};
 ghost use mathlib.Core.Option.{none, some};
 ghost use Prim.Native.Nat.{_≤_};
@@ -15,7 +18,8 @@ ghost use lib.ListN.{length, getD};
 ghost use Rattle.base.specs.Pick.{pick, within};
 ghost use Rattle.base.specs.Said.{ruled};
 ghost use Rattle.frame.specs.Reply.{said};
-ghost use Rattle.layout.specs.Layout.{layout, widths, size};
+ghost use Rattle.layout.specs.Layout.{layout, widths, size, kindOf};
+ghost use Rattle.layout.specs.Sizes.{mostBytes};
 ghost use Rattle.layout.specs.Fields.{meaning, storedAs, convert};
 ghost use Rattle.layout.specs.Rows.{rowRoom, rowAt, converted, listed, rowFault};
 ghost use Rattle.layout.specs.Contracts.{withRowAt, wide, orderFault, faultOf};
@@ -24,7 +28,7 @@ ghost use Rattle.layout.specs.Contracts.{withRowAt, wide, orderFault, fa
 pub enum Kind {
     // a number from the first to the second
     Number(u64, u64),
-    // a row of another section, or a sub-link: any number
+    // a row of another kind, or a sub-link: any number
     Reference,
     // zero
     Padding,
@@ -36,8 +40,43 @@ pub enum Kind {
     Speed,
 }
 
-// A field's width in bits, and its kind.
-pub struct Shape(pub usize, pub Kind);
+// What a field is called.
+pub enum Name {
+    Version,
+    EndSystems,
+    Vls,
+    Streams,
+    Ports,
+    Hops,
+    SendLeast,
+    SendGreatest,
+    ReceiveLeast,
+    ReceiveGreatest,
+    Padding,
+    Speed,
+    EndSystem,
+    Gap,
+    SubLinks,
+    Lmax,
+    Vl,
+    SubLink,
+    Kind,
+    Size,
+    LeastSize,
+    Period,
+    Jitter,
+    SwitchLeast,
+    SwitchGreatest,
+    Port,
+    Parent,
+}
+
+// A field: its name, its width in bits and what it stands for.
+pub struct Shape {
+    pub name: Name,
+    pub width: usize,
+    pub kind: Kind,
+}
 
 // Whether numbers are read from the table or are to be written to it.
 pub enum Way {
@@ -51,11 +90,11 @@ pub enum Fault {
     Nothing,
 }
 
-// The fields of a record, the numbers it has in a list, and its bytes, by section; 0 where there is no such section.
-pub fn fields_in(section: usize) -> usize
-    ensures { λ r. ⌜ r ≡ length (layout section) ⌝ }
+// The fields of a record, the numbers it has in a list, and its bytes, by kind; 0 where there is no such kind.
+pub fn fields_in(kind: usize) -> usize
+    ensures { λ r. ⌜ r ≡ length (layout kind) ⌝ }
 {
-    match section {
+    match kind {
         0 => 11,
         1 => 2,
         2 => 4,
@@ -66,32 +105,49 @@ pub fn fields_in(section: usize) -> usize
     }
 }
 
-pub fn numbers_in(section: usize) -> usize
-    ensures { λ r. ⌜ r ≡ listed section ⌝ }
+pub fn numbers_in(kind: usize) -> usize
+    ensures { λ r. ⌜ r ≡ listed kind ⌝ }
 {
-    match section {
-        0 => 10,
-        1 => 1,
-        2 => 4,
-        3 => 7,
-        4 => 3,
-        5 => 3,
+    match kind {
+        0 => sizes::HEADER,
+        1 => sizes::SYSTEM,
+        2 => sizes::VL,
+        3 => sizes::STREAM,
+        4 => sizes::PORT,
+        5 => sizes::HOP,
         _ => 0,
     }
 }
 
-pub fn bytes_in(section: usize) -> usize
-    ensures { λ r. ⌜ r ≡ size section ⌝ }
+pub fn bytes_in(kind: usize) -> usize
+    ensures { λ r. ⌜ r ≡ size kind ⌝ }
 {
-    match section {
-        0 => 14,
-        1 => 1,
-        2 => 3,
-        3 => 13,
-        4 => 4,
-        5 => 4,
+    match kind {
+        0 => sizes::HEADER_BYTES,
+        1 => sizes::SYSTEM_BYTES,
+        2 => sizes::VL_BYTES,
+        3 => sizes::STREAM_BYTES,
+        4 => sizes::PORT_BYTES,
+        5 => sizes::HOP_BYTES,
         _ => 0,
     }
+}
+
+// The kind of record that a version of the table has in a section. Any version but a known one is as version 1.
+pub fn kind_of(version: u64, section: usize) -> usize
+    ensures { λ r. ⌜ r ≡ kindOf version section ⌝ }
+{
+    match section {
+        0..=5 => section,
+        _ => KINDS,
+    }
+}
+
+// The bytes of the longest table.
+pub fn longest_table() -> usize
+    ensures { λ r. ⌜ r ≡ mostBytes 5 ⌝ }
+{
+    TABLE
 }
 
 // What a stored number means.
@@ -151,28 +207,28 @@ fn between(low: u64, high: u64, n: u64) -> Reply
 }
 
 fn convert_field(way: Way, s: Shape, n: u64) -> Reply
-    requires { ⌜ s .0 ≤ 32 ⌝ }
+    requires { ⌜ s .width ≤ 32 ⌝ }
     ensures { λ r. ⌜ said r ≡ ruled (convert way s n) ⌝ }
 {
-    let kind = s.1;
+    let kind = s.kind;
     match way {
         Way::Reading => meaning_of(kind, n),
-        Way::Writing => stored_as(kind, s.0, n),
+        Way::Writing => stored_as(kind, s.width, n),
     }
 }
 
-// The stored numbers of a section's row that begins at bit `at`; zeros where the table has no such row.
-pub fn row_at(table: &[u8], at: usize, section: usize) -> [u64; LONGEST]
-    ensures { λ r. ⌜ r ≡ wide (rowAt (now (table .entry)) at section) ⌝ }
+// The stored numbers of a record that begins at bit `at`; zeros where the table has no such record.
+pub fn row_at(table: &[u8], at: usize, kind: usize) -> [u64; LONGEST]
+    ensures { λ r. ⌜ r ≡ wide (rowAt (now (table .entry)) at kind) ⌝ }
 {
     let mut row = [0u64; LONGEST];
-    if has_row(table.len(), at, section) {
-        let n = fields_in(section);
+    if has_row(table.len(), at, kind) {
+        let n = fields_in(kind);
         let mut c = Cursor::new(at);
         let mut k = 0;
         while k < n {
-            let s = shape_at(section, k);
-            let f = c.read(table, s.0);
+            let s = shape_at(kind, k);
+            let f = c.read(table, s.width);
             row[k] = f.value;
             c = f.next;
             k += 1;
@@ -181,27 +237,27 @@ pub fn row_at(table: &[u8], at: usize, section: usize) -> [u64; LONGEST]
     row
 }
 
-// Writes the stored numbers of a section's row that begins at bit `at`; nothing where there is no such row.
-pub fn put_row(table: &mut [u8], at: usize, section: usize, row: [u64; LONGEST])
-    ensures { λ _. ⌜ now (table .exit) ≡ withRowAt (now (table .entry)) at section row ⌝ }
+// Writes the stored numbers of a record that begins at bit `at`; nothing where there is no such record.
+pub fn put_row(table: &mut [u8], at: usize, kind: usize, row: [u64; LONGEST])
+    ensures { λ _. ⌜ now (table .exit) ≡ withRowAt (now (table .entry)) at kind row ⌝ }
 {
-    if has_row(table.len(), at, section) {
-        let n = fields_in(section);
+    if has_row(table.len(), at, kind) {
+        let n = fields_in(kind);
         let mut c = Cursor::new(at);
         let mut k = 0;
         while k < n {
-            let s = shape_at(section, k);
-            c = c.put(table, s.0, row[k]);
+            let s = shape_at(kind, k);
+            c = c.put(table, s.width, row[k]);
             k += 1;
         }
     }
 }
 
-// Whether a table of n bytes has a row of this section from bit `at` on.
-fn has_row(n: usize, at: usize, section: usize) -> bool
-    ensures { λ r. ⌜ r ≡ rowRoom n at (widths section) ⌝ }
+// Whether a table of n bytes has a record of this kind from bit `at` on.
+fn has_row(n: usize, at: usize, kind: usize) -> bool
+    ensures { λ r. ⌜ r ≡ rowRoom n at (widths kind) ⌝ }
 {
-    let w = 8 * bytes_in(section);
+    let w = 8 * bytes_in(kind);
     if 4_294_967_296 < n {
         return false;
     }
@@ -212,14 +268,14 @@ fn has_row(n: usize, at: usize, section: usize) -> bool
 }
 
 // The row's numbers converted, 0 where one is out of range.
-pub fn converted_row(way: Way, section: usize, row: [u64; LONGEST]) -> [u64; LONGEST]
-    ensures { λ r. ⌜ r ≡ wide (converted way (layout section) row) ⌝ }
+pub fn converted_row(way: Way, kind: usize, row: [u64; LONGEST]) -> [u64; LONGEST]
+    ensures { λ r. ⌜ r ≡ wide (converted way (layout kind) row) ⌝ }
 {
-    let n = fields_in(section);
+    let n = fields_in(kind);
     let mut out = [0u64; LONGEST];
     let mut k = 0;
     while k < n {
-        let s = shape_at(section, k);
+        let s = shape_at(kind, k);
         out[k] = value_or_0(convert_field(way, s, row[k]));
         k += 1;
     }
@@ -236,19 +292,19 @@ fn value_or_0(r: Reply) -> u64
 }
 
 // The first test of a row that fails.
-pub fn fault_of(way: Way, section: usize, row: [u64; LONGEST]) -> Fault
-    ensures { λ r. ⌜ faultOf r ≡ rowFault way section row ⌝ }
+pub fn fault_of(way: Way, kind: usize, row: [u64; LONGEST]) -> Fault
+    ensures { λ r. ⌜ faultOf r ≡ rowFault way kind row ⌝ }
 {
-    let n = fields_in(section);
+    let n = fields_in(kind);
     let mut k = 0;
     while k < n {
-        let s = shape_at(section, k);
+        let s = shape_at(kind, k);
         if is_refused(convert_field(way, s, row[k])) {
             return Fault::Test(k as u64);
         }
         k += 1;
     }
-    order_fault(section, row)
+    order_fault(kind, row)
 }
 
 fn is_refused(r: Reply) -> bool
@@ -261,27 +317,27 @@ fn is_refused(r: Reply) -> bool
 }
 
 // The first pair of fields that are not in order.
-fn order_fault(section: usize, row: [u64; LONGEST]) -> Fault
-    ensures { λ r. ⌜ faultOf r ≡ orderFault section row ⌝ }
+fn order_fault(kind: usize, row: [u64; LONGEST]) -> Fault
+    ensures { λ r. ⌜ faultOf r ≡ orderFault kind row ⌝ }
 {
-    match section {
+    match kind {
         0 => {
-            if row[7] < row[6] {
+            if row[places::SEND_GREATEST] < row[places::SEND_LEAST] {
                 return Fault::Test(11);
             }
-            if row[9] < row[8] {
+            if row[places::RECEIVE_GREATEST] < row[places::RECEIVE_LEAST] {
                 return Fault::Test(12);
             }
             Fault::Nothing
         }
         3 => {
-            if row[3] < row[4] {
+            if row[places::STREAM_SIZE] < row[places::STREAM_LEAST_SIZE] {
                 return Fault::Test(8);
             }
             Fault::Nothing
         }
         4 => {
-            if row[2] < row[1] {
+            if row[places::PORT_GREATEST] < row[places::PORT_LEAST] {
                 return Fault::Test(4);
             }
             Fault::Nothing

@@ -1,7 +1,25 @@
 // How long the lists of numbers are that a table is unpacked to, and where they stand on a sheet, which holds them one after the other.
 // All follow from the fields of a record and the counts that the header admits; what each is, the definitions say by the section (specs/Sizes).
 
+// The kinds of records.
+pub const KINDS: usize = 6;
+
+// The bytes that a record takes in the table.
+pub const HEADER_BYTES: usize = 14;
+
+pub const SYSTEM_BYTES: usize = 1;
+
+pub const VL_BYTES: usize = 3;
+
+pub const STREAM_BYTES: usize = 13;
+
+pub const PORT_BYTES: usize = 4;
+
+pub const HOP_BYTES: usize = 4;
+
 // The numbers that a record has in a list: all its fields but the padding.
+pub const HEADER: usize = 10;
+
 pub const SYSTEM: usize = 1;
 
 pub const VL: usize = 4;
@@ -48,7 +66,9 @@ pub const PORTS: usize = MOST_PORTS * PORT;
 pub const HOPS: usize = MOST_HOPS * HOP;
 
 // A sheet: the delays, the counts of the five sections, the five lists.
-pub const SYSTEMS_AT: usize = DELAYS + 5;
+pub const HEAD: usize = DELAYS + 5;
+
+pub const SYSTEMS_AT: usize = HEAD;
 
 pub const VLS_AT: usize = SYSTEMS_AT + SYSTEMS;
 
@@ -61,9 +81,9 @@ pub const HOPS_AT: usize = PORTS_AT + PORTS;
 pub const SHEET: usize = HOPS_AT + HOPS;
 
 // The bytes of the longest table: the header's, and those of the most records of each section.
-pub const TABLE: usize = 14
-    + MOST_SYSTEMS
-    + MOST_VLS * 3
-    + MOST_STREAMS * 13
-    + MOST_PORTS * 4
-    + MOST_HOPS * 4;
+pub const TABLE: usize = HEADER_BYTES
+    + MOST_SYSTEMS * SYSTEM_BYTES
+    + MOST_VLS * VL_BYTES
+    + MOST_STREAMS * STREAM_BYTES
+    + MOST_PORTS * PORT_BYTES
+    + MOST_HOPS * HOP_BYTES;

@@ -6,15 +6,18 @@ use mathlib.Core.Option.{some}
 use mathlib.Core.Path.{_≡_, ap, _∙_}
 use native.Mathlib.Omega.{arith}
 use lib.Dec.{eqb, eqb→eq}
-use lib.ListN.{length, getD}
+use lib.ListN.{length}
 use Rattle.base.proofs.Every.{at}
 use Rattle.frame.specs.Gap.{gapOf, msOf}
 use Rattle.frame.specs.Tick.{perMs}
 use Rattle.frame.proofs.GapLaws.{ms-given, gap-refused, gap-in-ms}
 use Rattle.layout.specs.declared.Way.the-variants.{Reading}
 use Rattle.layout.specs.Fields.{meaning, convert}
-use Rattle.layout.specs.Layout.{vl, layout}
-use Rattle.layout.specs.Rows.{converted}
+use Rattle.layout.specs.Layout.{vl, layoutIn, layout}
+use Rattle.layout.specs.declared.Name.the-variants as name
+use Rattle.layout.specs.Names.{numberOf, indexIn}
+use Rattle.layout.proofs.SizeLaws.{field-places}
+use Rattle.layout.specs.Rows.{named, converted}
 use Rattle.layout.proofs.FaultLaws.{faultless}
 use Rattle.layout.proofs.LayoutLaws.{fields-are, listed-is}
 use Rattle.network.specs.Network.{vlAt}
@@ -35,20 +38,20 @@ evenly code h = eqb→eq (cycle % (perMs * 2 ^ code)) 0 (at (λ k. eqb (cycle % 
 
 -- what the code that is stored for VL v means, in milliseconds
 meant : (bytes : List ℕ) → Sound bytes → (v : ℕ) → v < rows bytes 2
-    → msOf (getD (row bytes 2 v) 1 0) ≡ some (getD (converted Reading (layout 2) (row bytes 2 v)) 1 0)
-unfolding layout vl convert meaning
+    → msOf (named 2 (row bytes 2 v) name.Gap) ≡ some (named 2 (converted Reading (layout 2) (row bytes 2 v)) name.Gap)
+unfolding named indexIn numberOf layoutIn vl convert meaning
 meant bytes sound v h = faultless Reading 2 (row bytes 2 v) (sound-rows bytes sound 2 v (omega arith) h) .fields 1 (omega (arith, fields-are 2))
 
 of-vl : (bytes : List ℕ) → readAnswer bytes ≡ accepted → (v : ℕ) → v < length (networkIn bytes .vls)
-    → gapOf (getD (row bytes 2 v) 1 0) ≡ some (vlAt (networkIn bytes) v .gap)
+    → gapOf (named 2 (row bytes 2 v) name.Gap) ≡ some (vlAt (networkIn bytes) v .gap)
 unfolding networkIn
 of-vl bytes e v h =
     let there = vls-are (unpacked bytes) in
     let count = count-read bytes 1 (omega arith) in
     let low : v < rows bytes 2 = omega arith in
-    let number = number-read bytes 1 v 1 (omega arith) low (omega (arith, listed-is 2)) in
+    let number = number-read bytes 1 v name.Gap (omega arith) low (omega (arith, listed-is 2, field-places .vl-gap)) in
     let gap = vl-gap (unpacked bytes) v (omega arith) ∙ ap (λ (ms : ℕ). perMs * ms) number in
-    rw gap (gap-in-ms (getD (row bytes 2 v) 1 0) _ (meant bytes (read-sound bytes e) v low))
+    rw gap (gap-in-ms (named 2 (row bytes 2 v) name.Gap) _ (meant bytes (read-sound bytes e) v low))
 
 pub gap-table : GapTable
 unfolding cycle

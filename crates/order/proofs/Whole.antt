@@ -20,9 +20,10 @@ use Rattle.frame.specs.Packets.{fullPacket, packets}
 use Rattle.frame.specs.Tick.{perMs, perByte, perUnit, sendBase, sendLimit, inTime}
 use Rattle.bits.specs.Bits.{digit, bitAt, fieldAt}
 use Rattle.bits.specs.Rows.{readAll}
-use Rattle.layout.specs.Layout.{header, endSystem, vl, stream, port, hop, layout, orders, widths, size}
-use Rattle.layout.specs.Fields.{meaning, convert}
-use Rattle.layout.specs.Rows.{rowRoom, rowAt, converted, listed, fieldTests, orderTests, rowFault}
+use Rattle.layout.specs.Layout.{header, endSystem, vl, stream, port, hop, layoutIn, orders, widths, size}
+use Rattle.layout.specs.Fields.{isPadding, meaning, convert}
+use Rattle.layout.specs.Names.{numberOf, indexIn}
+use Rattle.layout.specs.Rows.{rowRoom, rowAt, converted, listedIn, listed, fieldTests, orderTests, rowFaultIn}
 use Rattle.network.specs.Network.{Network, vlAt, streamAt}
 use Rattle.network.specs.Link.{onLine, lineTicks, mostTicks}
 use Rattle.network.specs.References.{namesSystem, hasHop, streamNamesVl, namesSubLink, hopNamesVl, namesPort, ofParent, parentEarlier, parentSameVl, parentLowerPort, twinOf, noEarlierTwin, routeLonger, notTooDeep, vlTests, streamTests, hopTests, refFault, badReference, oneSample, badSample}
@@ -53,7 +54,7 @@ use Rattle.order.proofs.Demand3.{demand-3}
 
 -- ---- the bytes: they read to 01's network
 pub network-is : networkIn table ≡ whole
-unfolding networkIn networkAt systemIn vlIn streamIn portIn hopIn numberAt ticksAt parentOf recordsIn listFor tabulate perMs perByte perUnit unpacked delaysOf records recordOf row from rows headerRow rowAt rowRoom readAll fieldAt bitAt digit widths layout size header endSystem vl stream port hop total converted convert meaning listed numberOr0 msOf
+unfolding networkIn networkAt systemIn vlIn streamIn portIn hopIn numberAt ticksAt parentOf recordsIn listFor tabulate perMs perByte perUnit unpacked delaysOf records recordOf row from rows headerRow rowAt rowRoom readAll fieldAt bitAt digit widths layoutIn size header endSystem vl stream port hop total converted convert meaning listed listedIn isPadding numberOr0 msOf indexIn numberOf
 network-is = refl
 
 none-1 : answer1 table ≡ none
@@ -61,15 +62,15 @@ unfolding answer1
 none-1 = refl
 
 none-2 : answer2 table ≡ none
-unfolding answer2 rowFault fieldTests orderTests orders firstFailing leastFrom isSome convert meaning headerRow rowAt rowRoom readAll fieldAt bitAt digit widths layout size header total
+unfolding answer2 rowFaultIn fieldTests orderTests orders firstFailing leastFrom isSome convert meaning headerRow rowAt rowRoom readAll fieldAt bitAt digit widths layoutIn size header total indexIn numberOf
 none-2 = refl
 
 none-3 : answer3 table ≡ none
-unfolding answer3 from rows headerRow rowAt rowRoom readAll fieldAt bitAt digit widths layout size header endSystem vl stream port hop total
+unfolding answer3 from rows headerRow rowAt rowRoom readAll fieldAt bitAt digit widths layoutIn size header endSystem vl stream port hop total
 none-3 = refl
 
 none-4 : answer4 table ≡ none
-unfolding answer4 badSection badRow rowFault fieldTests orderTests orders firstFailing leastFrom isSome convert meaning msOf row from rows headerRow rowAt rowRoom readAll fieldAt bitAt digit widths layout size header endSystem vl stream port hop total
+unfolding answer4 badSection badRow rowFaultIn fieldTests orderTests orders firstFailing leastFrom isSome convert meaning msOf row from rows headerRow rowAt rowRoom readAll fieldAt bitAt digit widths layoutIn size header endSystem vl stream port hop total indexIn numberOf
 none-4 = refl
 
 -- ---- the network

@@ -5,14 +5,15 @@ use Prim.Native.Nat.{ℕ, _*_, _%_, _^_, _≤_, _<_}
 use mathlib.Core.List.{List}
 use mathlib.Core.Option.{none, some}
 use mathlib.Core.Path.{_≡_}
-use lib.ListN.{length, getD, take}
+use lib.ListN.{length, take}
 use Rattle.base.specs.Tests.{numberOr0}
 use Rattle.bits.specs.Bits.{Bytes}
 use Rattle.frame.specs.Frame.{protocolOverhead, leastLine, largestLine}
 use Rattle.frame.specs.Gap.{gapOf}
 use Rattle.frame.specs.Packets.{packets}
 use Rattle.frame.specs.Tick.{perMs}
-use Rattle.layout.specs.Rows.{listed}
+use Rattle.layout.specs.declared.Name.the-variants as name
+use Rattle.layout.specs.Rows.{named, listed}
 use Rattle.network.specs.Network.{Network, vlAt, streamAt, portAt, hopAt}
 use Rattle.station.specs.Station.{figure}
 use Rattle.table.specs.declared.Unpacked.{Unpacked}
@@ -76,10 +77,10 @@ pub record GapTable : Type 0 where
   pub no-other : (code : ℕ) → 8 ≤ code → gapOf code ≡ none
   -- each gap divides the longest, 1,600,000 ticks, which is the cycle that the station's code goes by
   pub evenly : (code : ℕ) → code < 8 → 1600000 % (perMs * 2 ^ code) ≡ 0
-  -- the code of a VL is field 1 of its record, in section 2: the VL's gap in the network is the gap of the code that stands there
+  -- the code of a VL stands in its record, in section 2: the VL's gap in the network is the gap of that code
   pub of-vl :
       (bytes : List ℕ) → readAnswer bytes ≡ accepted
-      → (v : ℕ) → v < length (networkIn bytes .vls) → gapOf (getD (row bytes 2 v) 1 0) ≡ some (vlAt (networkIn bytes) v .gap)
+      → (v : ℕ) → v < length (networkIn bytes .vls) → gapOf (named 2 (row bytes 2 v) name.Gap) ≡ some (vlAt (networkIn bytes) v .gap)
 
 -- what a caller has in hand of the six lent lists: the four delays, and as many records of each section as the unpacker counted
 unfoldable pub fronts : Unpacked → (delays systems vls streams ports hops : List ℕ) → Lists

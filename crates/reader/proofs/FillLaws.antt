@@ -14,9 +14,11 @@ use Rattle.base.specs.Tabulate.{tabulate}
 use Rattle.base.proofs.TabulateLaws.{tabulate-at}
 use Rattle.base.proofs.Tests.{within-yes}
 use Rattle.layout.specs.Rows.{listed}
-use Rattle.layout.specs.Sizes.{most, capacity, place}
+use Rattle.layout.specs.declared.Name.the-variants as name
+use Rattle.layout.specs.Limits.{most}
+use Rattle.layout.specs.Sizes.{capacity, place}
 use Rattle.layout.proofs.LayoutLaws.{listed-is}
-use Rattle.layout.proofs.SizeLaws.{most-are, places-are}
+use Rattle.layout.proofs.SizeLaws.{place-le, field-places}
 use Rattle.network.specs.Network.{Network}
 use Rattle.network.specs.Ranges.{Ranges}
 use Rattle.table.specs.declared.Answer.{Answer}
@@ -73,15 +75,6 @@ unfolding tableAnswer
 own-sound bytes e = unpack-was bytes readersLengths (own-accepted bytes e .0)
 
 module _ (bytes : List ℕ) (sound : Sound bytes) where
-  -- ---- the counts are within the limits
-  pub rows-most : (s : ℕ) → suc s < 6 → rows bytes (suc s) ≤ most (suc s)
-  rows-most zero h = rw (most-are .systems) (few bytes (sound .header) .systems)
-  rows-most (suc zero) h = rw (most-are .vls) (few bytes (sound .header) .vls)
-  rows-most (suc (suc zero)) h = rw (most-are .streams) (few bytes (sound .header) .streams)
-  rows-most (suc (suc (suc zero))) h = rw (most-are .ports) (few bytes (sound .header) .ports)
-  rows-most (suc (suc (suc (suc zero)))) h = rw (most-are .hops) (few bytes (sound .header) .hops)
-  rows-most (suc (suc (suc (suc (suc s))))) h = absurd (omega arith)
-
   list-is : (s : ℕ) → suc s < 6 → listFor (unpacked bytes) (suc s) ≡ records bytes (suc s) (rows bytes (suc s))
   unfolding listFor unpacked
   list-is zero h = refl
@@ -96,7 +89,7 @@ module _ (bytes : List ℕ) (sound : Sound bytes) where
   unfolding fitting capacity
   all-fit s h =
       let some = listed-some (suc s) h in
-      let room : rows bytes (suc s) ≤ most (suc s) * listed (suc s) / listed (suc s) = le-div-iff-mul-le {k = listed (suc s)} some .1 (mul-le-mul-right (listed (suc s)) (rows-most s h)) in
+      let room : rows bytes (suc s) ≤ most (suc s) * listed (suc s) / listed (suc s) = le-div-iff-mul-le {k = listed (suc s)} some .1 (mul-le-mul-right (listed (suc s)) (few bytes (sound .header) s h)) in
       rw (within-yes 1 5 (suc s) (omega arith, omega arith)) (omega (arith, room))
 
   pub section-block : (s n : ℕ) → suc s < 6 → n ≡ capacity (suc s) → lent n (records bytes (suc s) (fitting bytes (suc s) n)) ≡ block (unpacked bytes) (suc s)
@@ -115,37 +108,43 @@ module _ (bytes : List ℕ) (sound : Sound bytes) where
   held = record {
     delays = delays-whole;
     whole = λ s h. ap length (list-is s h) ∙ length-records bytes (suc s) (rows bytes (suc s)) ∙ ap (λ (n : ℕ). n * listed (suc s)) (sym (count-read bytes s h));
-    few = λ s h. rw (count-read bytes s h) (rows-most s h);
+    few = λ s h. rw (count-read bytes s h) (few bytes (sound .header) s h);
     gaps = λ i h.
         let row : i < rows bytes 2 = rw (count-read bytes 1 (omega arith)) at h in
-        omega (arith, number-read bytes 1 i 1 (omega arith) row (omega (arith, listed-is 2)), vl-row bytes sound i row);
+        omega (arith, number-read bytes 1 i name.Gap (omega arith) row (omega (arith, listed-is 2, field-places .vl-gap)), vl-row bytes sound i row);
   }
 
   pub network-read : networkOn (sheetOf (unpacked bytes)) ≡ networkIn bytes
   unfolding networkIn
   network-read = network-same (unpacked bytes) held
 
--- ---- the steps of filling
-pub head-put : (s t head bytes : List ℕ) → length s ≡ 8137 → head ≡ block (unpacked bytes) 0 → t ≡ head ++ drop 9 s
-    → (take 9 t ≡ block (unpacked bytes) 0) × (length t ≡ 8137)
-unfolding block unpacked
+-- ---- the steps of filling: the front holds the blocks up to a section's place
+pub head-put : (s t head bytes : List ℕ) → length s ≡ place 6 → head ≡ block (unpacked bytes) 0 → t ≡ head ++ drop (length head) s
+    → (take (place 1) t ≡ blocks (unpacked bytes) 1) × (length t ≡ place 6)
+unfolding block unpacked blocks place capacity
 head-put s t head bytes long is e =
-    let whole : length head ≡ 9 = omega (arith, ap length is, length-append (delaysOf bytes) (recordsIn (unpacked bytes) 1 ∷ recordsIn (unpacked bytes) 2 ∷ recordsIn (unpacked bytes) 3 ∷ recordsIn (unpacked bytes) 4 ∷ recordsIn (unpacked bytes) 5 ∷ []), length-delays bytes) in (
-      ap₂ (λ (n : ℕ) (l : List ℕ). take n l) (sym whole) e ∙ take-append-seam head (drop 9 s) ∙ is,
-      omega (arith, ap length e, length-append head (drop 9 s), length-drop 9 s),
+    let counts = recordsIn (unpacked bytes) 1 ∷ recordsIn (unpacked bytes) 2 ∷ recordsIn (unpacked bytes) 3 ∷ recordsIn (unpacked bytes) 4 ∷ recordsIn (unpacked bytes) 5 ∷ [] in
+    let whole : length head ≡ place 1 = omega (arith, ap length is, length-append (delaysOf bytes) counts, length-delays bytes) in
+    let room = place-le 1 6 (omega arith) in (
+      ap₂ (λ (n : ℕ) (l : List ℕ). take n l) (sym whole) e ∙ take-append-seam head (drop (length head) s) ∙ is,
+      omega (arith, ap length e, length-append head (drop (length head) s), length-drop (length head) s),
     )
 
-pub section-put : (bytes : List ℕ) → tableAnswer bytes .number ≡ 0 → (k a b : ℕ) (s t : List ℕ) → take a s ≡ blocks (unpacked bytes) (suc k) → length s ≡ 8137
-    → a ≤ b → b ≤ 8137 → (suc k < 6) × (b - a ≡ capacity (suc k))
+-- a section's records, from its place a to the next place b
+pub section-put : (bytes : List ℕ) → tableAnswer bytes .number ≡ 0 → (k a b : ℕ) → suc k < 6 → place (suc k) ≡ a → place (suc (suc k)) ≡ b → (s t : List ℕ)
+    → take (place (suc k)) s ≡ blocks (unpacked bytes) (suc k) → length s ≡ place 6
     → t ≡ take a s ++ (lent (b - a) (records bytes (suc k) (fitting bytes (suc k) (b - a))) ++ drop b s)
-    → (take b t ≡ blocks (unpacked bytes) (suc k) ++ block (unpacked bytes) (suc k)) × (length t ≡ 8137)
-section-put bytes none-given k a b s t front long low high size e =
+    → (take (place (suc (suc k))) t ≡ blocks (unpacked bytes) (suc (suc k))) × (length t ≡ place 6)
+unfolding blocks place
+section-put bytes none-given k a b h at-a at-b s t front long e =
     let sound = own-sound bytes none-given in
-    let is = section-block bytes sound k (b - a) (size .0) (size .1) in
+    let size : b - a ≡ capacity (suc k) = omega arith in
+    let is = section-block bytes sound k (b - a) h size in
     let p = lent (b - a) (records bytes (suc k) (fitting bytes (suc k) (b - a))) in
-    let whole : length p ≡ b - a = omega (arith, ap length is, length-block (unpacked bytes) (held bytes sound) (suc k) (size .0), size .1) in
-    let next = put-next s t p (blocks (unpacked bytes) (suc k)) a b front low (omega arith) whole e in
-    (next .0 ∙ ap (λ (r : List ℕ). blocks (unpacked bytes) (suc k) ++ r) is, omega (arith, next .1))
+    let whole : length p ≡ b - a = omega (arith, ap length is, length-block (unpacked bytes) (held bytes sound) (suc k) h) in
+    let known : take a s ≡ blocks (unpacked bytes) (suc k) = ap (λ (n : ℕ). take n s) (sym at-a) ∙ front in
+    let next = put-next s t p (blocks (unpacked bytes) (suc k)) a b known (omega arith) (omega (arith, place-le (suc (suc k)) 6 h)) whole e in
+    (ap (λ (n : ℕ). take n t) at-b ∙ next .0 ∙ ap (λ (r : List ℕ). blocks (unpacked bytes) (suc k) ++ r) is, omega (arith, next .1))
 
 -- ---- the answer and the sheet that is left
 some-number : (n : ℕ) → ltb 0 n ≡ true → 0 < n
@@ -156,11 +155,11 @@ no-number : (n : ℕ) → ltb 0 n ≡ false → n ≡ 0
 no-number zero e = refl
 no-number (suc n) e = absurd (true≢false (sym (lt-ltb 0 (suc n) (omega arith)) ∙ e))
 
-pub zeros-left : (bytes out : List ℕ) → 0 < readAnswer bytes .number → out ≡ replicate 8137 0 → out ≡ readSheet bytes
+pub zeros-left : (bytes out : List ℕ) → 0 < readAnswer bytes .number → out ≡ replicate (place 6) 0 → out ≡ readSheet bytes
 unfolding readSheet
-zeros-left bytes out h e = rw (ne-eqb (readAnswer bytes .number) 0 (λ z. omega arith), places-are .end) e
+zeros-left bytes out h e = rw (ne-eqb (readAnswer bytes .number) 0 (λ z. omega arith)) e
 
-pub refused-read : (bytes out : List ℕ) (a : Answer) → a ≡ tableAnswer bytes → ltb 0 (a .number) ≡ true → out ≡ replicate 8137 0
+pub refused-read : (bytes out : List ℕ) (a : Answer) → a ≡ tableAnswer bytes → ltb 0 (a .number) ≡ true → out ≡ replicate (place 6) 0
     → (a ≡ readAnswer bytes) × (out ≡ readSheet bytes)
 unfolding tableAnswer
 refused-read bytes out a e t zeros =
@@ -186,7 +185,7 @@ module _ (bytes sheet : List ℕ) (accepts : tableAnswer bytes .number ≡ 0) (f
   unfolding sheetOf
   refused-left out b e t zeros =
       let is = answer-is b e in
-      let long = ap length filled ∙ length-blocks (unpacked bytes) (held bytes (own-sound bytes accepts)) 6 (omega arith) ∙ places-are .end in
+      let long = ap length filled ∙ length-blocks (unpacked bytes) (held bytes (own-sound bytes accepts)) 6 (omega arith) in
       (is, zeros-left bytes out (rw is at (some-number (b .number) t)) (zeros ∙ ap (λ (n : ℕ). replicate n 0) long))
 
   pub accepted-left : (b : Answer) → b ≡ firstGiven (answer5 (networkOn sheet) ∷ answer6 (networkOn sheet) ∷ []) → ltb 0 (b .number) ≡ false

@@ -5,13 +5,14 @@ ghost use mathlib.Core.List.{_++_};
 ghost use mathlib.Core.Path.{_≡_};
 ghost use Prim.Native.Nat.{_≤_, _-_};
 ghost use lib.ListN.{length, take, drop};
+ghost use Rattle.layout.specs.Sizes.{place};
 ghost use Rattle.table.specs.Sections.{records, lent};
 ghost use Rattle.table.specs.RoundTrip.{unpacked};
 ghost use Rattle.unpacker.specs.Unpacking.{tableAnswer, fitting};
 ghost use Rattle.sheet.specs.Sheet.{block, sheetOf};
 
 pub fn load(table: &[u8], sheet: &mut [u64])
-    requires { ⌜ (tableAnswer (now table) .number ≡ 0) × (length (now sheet) ≡ 8137) ⌝ }
+    requires { ⌜ (tableAnswer (now table) .number ≡ 0) × (length (now sheet) ≡ place 6) ⌝ }
     ensures { λ _. ⌜ now (sheet .exit) ≡ sheetOf (unpacked (now (table .entry))) ⌝ }
 {
     put_head(sheet, head_of(table));
@@ -23,7 +24,7 @@ pub fn load(table: &[u8], sheet: &mut [u64])
 }
 
 // The delays and the counts.
-fn head_of(table: &[u8]) -> [u64; 9]
+fn head_of(table: &[u8]) -> [u64; sizes::HEAD]
     ensures { λ r. ⌜ r ≡ block (unpacked (now (table .entry))) 0 ⌝ }
 {
     let d = unpacker::delays_of(table);
@@ -41,12 +42,12 @@ fn head_of(table: &[u8]) -> [u64; 9]
     ]
 }
 
-fn put_head(sheet: &mut [u64], head: [u64; 9])
-    requires { ⌜ 9 ≤ length (now sheet) ⌝ }
-    ensures { λ _. ⌜ now (sheet .exit) ≡ head ++ drop 9 (now (sheet .entry)) ⌝ }
+fn put_head(sheet: &mut [u64], head: [u64; sizes::HEAD])
+    requires { ⌜ length head ≤ length (now sheet) ⌝ }
+    ensures { λ _. ⌜ now (sheet .exit) ≡ head ++ drop (length head) (now (sheet .entry)) ⌝ }
 {
     let mut k = 0;
-    while k < 9 {
+    while k < sizes::HEAD {
         sheet[k] = head[k];
         k += 1;
     }

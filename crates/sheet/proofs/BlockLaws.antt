@@ -11,8 +11,13 @@ use lib.ListN.{length, getD, length-append, List·getD-append}
 use Rattle.base.specs.Tabulate.{tabulate}
 use Rattle.base.proofs.TabulateLaws.{tabulate-same}
 use Rattle.frame.specs.Tick.{perMs, perUnit, inForce}
+use Rattle.layout.specs.declared.Name.{Name}
+use Rattle.layout.specs.declared.Name.the-variants as name
+use Rattle.layout.specs.Limits.{most}
+use Rattle.layout.specs.Layout.{placeOf}
 use Rattle.layout.specs.Rows.{listed}
-use Rattle.layout.specs.Sizes.{most, capacity, place}
+use Rattle.layout.specs.Sizes.{capacity, place}
+use Rattle.layout.proofs.SizeLaws.{field-places}
 use Rattle.layout.proofs.LayoutLaws.{listed-is}
 use Rattle.table.specs.Write.{Lists, listFor, recordsIn}
 use Rattle.table.specs.Decoded.{numberAt, ticksAt, parentOf, systemIn, vlIn, streamIn, portIn, hopIn, networkAt, networkOf}
@@ -33,7 +38,7 @@ pub record Held (ls : Lists) : Type 0 where
   pub delays : length (ls .delays) ≡ 4
   pub whole : (s : ℕ) → suc s < 6 → length (listFor ls (suc s)) ≡ recordsIn ls (suc s) * listed (suc s)
   pub few : (s : ℕ) → suc s < 6 → recordsIn ls (suc s) ≤ most (suc s)
-  pub gaps : (i : ℕ) → i < recordsIn ls 2 → numberAt ls 2 i 1 < 256
+  pub gaps : (i : ℕ) → i < recordsIn ls 2 → numberAt ls 2 i name.Gap < 256
 
 module _ (ls : Lists) (held : Held ls) where
   list-fits : (s : ℕ) → suc s < 6 → length (listFor ls (suc s)) ≤ capacity (suc s)
@@ -91,9 +96,11 @@ module _ (ls : Lists) (held : Held ls) where
   unfolding countOn
   count-on s h e = omega (arith, e, held .few s h)
 
-  number-on : (s i k : ℕ) → suc s < 6 → i < recordsIn ls (suc s) → k < listed (suc s) → numberOn (sheetOf ls) (suc s) i k ≡ numberAt ls (suc s) i k
+  number-on : (s i : ℕ) (n : Name) → suc s < 6 → i < recordsIn ls (suc s) → placeOf (suc s) n < listed (suc s)
+      → numberOn (sheetOf ls) (suc s) i n ≡ numberAt ls (suc s) i n
   unfolding numberOn numberAt sheetOf block
-  number-on s i k h l m =
+  number-on s i n h l m =
+      let k = placeOf (suc s) n in
       let inside : i * listed (suc s) + k < length (listFor ls (suc s)) = omega (arith, held .whole s h, mul-le-mul-right (listed (suc s)) l) in
       let e : place (suc s) + i * listed (suc s) + k ≡ place (suc s) + (i * listed (suc s) + k) = omega arith in
       ap (λ (j : ℕ). getD (blocks ls 6) j 0) e
@@ -101,53 +108,59 @@ module _ (ls : Lists) (held : Held ls) where
       ∙ lent-at (capacity (suc s)) (listFor ls (suc s)) (i * listed (suc s) + k) inside
 
   -- ---- the records
-  number : (s i k m : ℕ) → suc s < 6 → i < recordsIn ls (suc s) → listed (suc s) ≡ m → k < m → numberOn (sheetOf ls) (suc s) i k ≡ numberAt ls (suc s) i k
-  number s i k m h l e f = number-on s i k h l (omega (arith, e))
+  -- the number of the field of a name, which stands at place k of m
+  number : (s i : ℕ) (n : Name) (k m : ℕ) → suc s < 6 → i < recordsIn ls (suc s) → listed (suc s) ≡ m → placeOf (suc s) n ≡ k → k < m
+      → numberOn (sheetOf ls) (suc s) i n ≡ numberAt ls (suc s) i n
+  number s i n k m h l e p f = number-on s i n h l (omega (arith, e, p))
 
   system-same : (i : ℕ) → i < recordsIn ls 1 → systemOn (sheetOf ls) i ≡ systemIn inForce ls i
   unfolding systemOn systemIn
-  system-same i h = let n0 = ap (ticksAt inForce) (number 0 i 0 1 (omega arith) h (listed-is 1) (omega arith)) in λ j. record { perbyte = n0 j }
+  system-same i h = let n0 = ap (ticksAt inForce) (number 0 i name.Speed 0 1 (omega arith) h (listed-is 1) (field-places .system-speed) (omega arith)) in λ j. record { perbyte = n0 j }
 
   vl-same : (i : ℕ) → i < recordsIn ls 2 → vlOn (sheetOf ls) i ≡ vlIn inForce ls i
   unfolding vlOn vlIn
   vl-same i h =
-      let here : (k : ℕ) → k < 4 → numberOn (sheetOf ls) 2 i k ≡ numberAt ls 2 i k = λ k l. number 1 i k 4 (omega arith) h (listed-is 2) l in
-      let n0 = here 0 (omega arith) in
-      let ms : numberOn (sheetOf ls) 2 i 1 % 256 ≡ numberAt ls 2 i 1 = omega (arith, here 1 (omega arith), held .gaps i h) in
+      let here : (n : Name) (k : ℕ) → placeOf 2 n ≡ k → k < 4 → numberOn (sheetOf ls) 2 i n ≡ numberAt ls 2 i n =
+      λ n k p l. number 1 i n k 4 (omega arith) h (listed-is 2) p l in
+      let n0 = here name.EndSystem 0 (field-places .vl-system) (omega arith) in
+      let ms : numberOn (sheetOf ls) 2 i name.Gap % 256 ≡ numberAt ls 2 i name.Gap = omega (arith, here name.Gap 1 (field-places .vl-gap) (omega arith), held .gaps i h) in
       let n1 = ap (λ (n : ℕ). perMs * n) ms in
-      let n2 = here 2 (omega arith) in
-      let n3 = here 3 (omega arith) in
+      let n2 = here name.SubLinks 2 (field-places .vl-sub-links) (omega arith) in
+      let n3 = here name.Lmax 3 (field-places .vl-lmax) (omega arith) in
       λ j. record { system = n0 j; gap = n1 j; sublinks = n2 j; lmax = n3 j }
 
   stream-same : (i : ℕ) → i < recordsIn ls 3 → streamOn (sheetOf ls) i ≡ streamIn inForce ls i
   unfolding streamOn streamIn
   stream-same i h =
-      let here : (k : ℕ) → k < 7 → numberOn (sheetOf ls) 3 i k ≡ numberAt ls 3 i k = λ k l. number 2 i k 7 (omega arith) h (listed-is 3) l in
-      let n0 = here 0 (omega arith) in
-      let n1 = here 1 (omega arith) in
-      let n2 = ap (λ (n : ℕ). eqb n 1) (here 2 (omega arith)) in
-      let n3 = here 3 (omega arith) in
-      let n4 = here 4 (omega arith) in
-      let n5 = units (here 5 (omega arith)) in
-      let n6 = units (here 6 (omega arith)) in
+      let here : (n : Name) (k : ℕ) → placeOf 3 n ≡ k → k < 7 → numberOn (sheetOf ls) 3 i n ≡ numberAt ls 3 i n =
+      λ n k p l. number 2 i n k 7 (omega arith) h (listed-is 3) p l in
+      let n0 = here name.Vl 0 (field-places .stream-vl) (omega arith) in
+      let n1 = here name.SubLink 1 (field-places .stream-sub-link) (omega arith) in
+      let n2 = ap (λ (n : ℕ). eqb n 1) (here name.Kind 2 (field-places .stream-kind) (omega arith)) in
+      let n3 = here name.Size 3 (field-places .stream-size) (omega arith) in
+      let n4 = here name.LeastSize 4 (field-places .stream-least-size) (omega arith) in
+      let n5 = units (here name.Period 5 (field-places .stream-period) (omega arith)) in
+      let n6 = units (here name.Jitter 6 (field-places .stream-jitter) (omega arith)) in
       λ j. record { vl = n0 j; sublink = n1 j; sampling = n2 j; size = n3 j; least = n4 j; period = n5 j; jitter = n6 j }
 
   port-same : (i : ℕ) → i < recordsIn ls 4 → portOn (sheetOf ls) i ≡ portIn inForce ls i
   unfolding portOn portIn
   port-same i h =
-      let here : (k : ℕ) → k < 3 → numberOn (sheetOf ls) 4 i k ≡ numberAt ls 4 i k = λ k l. number 3 i k 3 (omega arith) h (listed-is 4) l in
-      let n0 = ap (ticksAt inForce) (here 0 (omega arith)) in
-      let n1 = units (here 1 (omega arith)) in
-      let n2 = units (here 2 (omega arith)) in
+      let here : (n : Name) (k : ℕ) → placeOf 4 n ≡ k → k < 3 → numberOn (sheetOf ls) 4 i n ≡ numberAt ls 4 i n =
+      λ n k p l. number 3 i n k 3 (omega arith) h (listed-is 4) p l in
+      let n0 = ap (ticksAt inForce) (here name.Speed 0 (field-places .port-speed) (omega arith)) in
+      let n1 = units (here name.SwitchLeast 1 (field-places .port-least) (omega arith)) in
+      let n2 = units (here name.SwitchGreatest 2 (field-places .port-greatest) (omega arith)) in
       λ j. record { perbyte = n0 j; least = n1 j; greatest = n2 j }
 
   hop-same : (i : ℕ) → i < recordsIn ls 5 → hopOn (sheetOf ls) i ≡ hopIn ls i
   unfolding hopOn hopIn
   hop-same i h =
-      let here : (k : ℕ) → k < 3 → numberOn (sheetOf ls) 5 i k ≡ numberAt ls 5 i k = λ k l. number 4 i k 3 (omega arith) h (listed-is 5) l in
-      let n0 = here 0 (omega arith) in
-      let n1 = here 1 (omega arith) in
-      let n2 = ap parentOf (here 2 (omega arith)) in
+      let here : (n : Name) (k : ℕ) → placeOf 5 n ≡ k → k < 3 → numberOn (sheetOf ls) 5 i n ≡ numberAt ls 5 i n =
+      λ n k p l. number 4 i n k 3 (omega arith) h (listed-is 5) p l in
+      let n0 = here name.Vl 0 (field-places .hop-vl) (omega arith) in
+      let n1 = here name.Port 1 (field-places .hop-port) (omega arith) in
+      let n2 = ap parentOf (here name.Parent 2 (field-places .hop-parent) (omega arith)) in
       λ j. record { vl = n0 j; port = n1 j; parent = n2 j }
 
   -- ---- the network

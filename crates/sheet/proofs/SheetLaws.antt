@@ -4,16 +4,19 @@ use Prim.Native.Nat.{ℕ, _+_, _*_, _%_, _≤_, _<_, min}
 use mathlib.Core.Bool.{Bool}
 use mathlib.Core.List.{List}
 use mathlib.Core.Path.{_≡_, refl, sym, ap, ap₂, _∙_}
-use native.Mathlib.Nat.{add-zero}
 use native.Mathlib.Omega.{arith}
 use lib.Dec.{eqb}
 use lib.ListN.{length, getD, List·getD-eq-default}
 use Rattle.base.proofs.TabulateLaws.{length-tabulate, tabulate-at}
 use Rattle.frame.specs.Tick.{perUnit, inForce}
 use Rattle.frame.proofs.TickLaws.{per-ms-is, per-unit-is}
+use Rattle.layout.specs.declared.Name.{Name}
+use Rattle.layout.specs.declared.Name.the-variants as name
+use Rattle.layout.specs.Limits.{limits}
+use Rattle.layout.specs.Layout.{placeOf}
 use Rattle.layout.specs.Rows.{listed}
 use Rattle.layout.specs.Sizes.{place}
-use Rattle.layout.proofs.SizeLaws.{most-are}
+use Rattle.layout.proofs.SizeLaws.{most-are, field-places}
 use Rattle.network.specs.declared.EndSystem.{EndSystem}
 use Rattle.network.specs.declared.Vl.{Vl}
 use Rattle.network.specs.declared.Stream.{Stream}
@@ -29,17 +32,13 @@ use Rattle.sheet.specs.Sheet.{countOn, numberOn, systemOn, vlOn, streamO
 in-units : {m n : ℕ} → m ≡ n → m ≡ perUnit * n
 in-units {m} {n} e = e ∙ sym (per-unit-is n)
 
--- the first number of a record
-first-number : (l : List ℕ) (a : ℕ) → getD l (a + 0) 0 ≡ getD l a 0
-first-number l a = ap (λ (x : ℕ). getD l x 0) (add-zero a)
-
 module _ (sheet : List ℕ) where
   -- ---- how many there are
   systems-are : length (networkOn sheet .systems) ≡ countOn sheet 1
   unfolding networkOn
   systems-are = length-tabulate (systemOn sheet) (countOn sheet 1)
 
-  pub systems-on : (r : ℕ) → r ≡ min (getD sheet 4 0) 64 → (r ≡ length (networkOn sheet .systems)) × (r ≤ 64)
+  pub systems-on : (r : ℕ) → r ≡ min (getD sheet 4 0) (limits .systems) → (r ≡ length (networkOn sheet .systems)) × (r ≤ limits .systems)
   unfolding countOn
   systems-on r e = (e ∙ ap (λ (n : ℕ). min (getD sheet 4 0) n) (sym (most-are .systems)) ∙ sym systems-are, omega (arith, e))
 
@@ -47,7 +46,7 @@ module _ (sheet : List ℕ) where
   unfolding networkOn
   vls-are = length-tabulate (vlOn sheet) (countOn sheet 2)
 
-  pub vls-on : (r : ℕ) → r ≡ min (getD sheet 5 0) 256 → (r ≡ length (networkOn sheet .vls)) × (r ≤ 256)
+  pub vls-on : (r : ℕ) → r ≡ min (getD sheet 5 0) (limits .vls) → (r ≡ length (networkOn sheet .vls)) × (r ≤ limits .vls)
   unfolding countOn
   vls-on r e = (e ∙ ap (λ (n : ℕ). min (getD sheet 5 0) n) (sym (most-are .vls)) ∙ sym vls-are, omega (arith, e))
 
@@ -55,7 +54,7 @@ module _ (sheet : List ℕ) where
   unfolding networkOn
   streams-are = length-tabulate (streamOn sheet) (countOn sheet 3)
 
-  pub streams-on : (r : ℕ) → r ≡ min (getD sheet 6 0) 512 → (r ≡ length (networkOn sheet .streams)) × (r ≤ 512)
+  pub streams-on : (r : ℕ) → r ≡ min (getD sheet 6 0) (limits .streams) → (r ≡ length (networkOn sheet .streams)) × (r ≤ limits .streams)
   unfolding countOn
   streams-on r e = (e ∙ ap (λ (n : ℕ). min (getD sheet 6 0) n) (sym (most-are .streams)) ∙ sym streams-are, omega (arith, e))
 
@@ -63,7 +62,7 @@ module _ (sheet : List ℕ) where
   unfolding networkOn
   ports-are = length-tabulate (portOn sheet) (countOn sheet 4)
 
-  pub ports-on : (r : ℕ) → r ≡ min (getD sheet 7 0) 128 → (r ≡ length (networkOn sheet .ports)) × (r ≤ 128)
+  pub ports-on : (r : ℕ) → r ≡ min (getD sheet 7 0) (limits .ports) → (r ≡ length (networkOn sheet .ports)) × (r ≤ limits .ports)
   unfolding countOn
   ports-on r e = (e ∙ ap (λ (n : ℕ). min (getD sheet 7 0) n) (sym (most-are .ports)) ∙ sym ports-are, omega (arith, e))
 
@@ -71,7 +70,7 @@ module _ (sheet : List ℕ) where
   unfolding networkOn
   hops-are = length-tabulate (hopOn sheet) (countOn sheet 5)
 
-  pub hops-on : (r : ℕ) → r ≡ min (getD sheet 8 0) 1024 → (r ≡ length (networkOn sheet .hops)) × (r ≤ 1024)
+  pub hops-on : (r : ℕ) → r ≡ min (getD sheet 8 0) (limits .hops) → (r ≡ length (networkOn sheet .hops)) × (r ≤ limits .hops)
   unfolding countOn
   hops-on r e = (e ∙ ap (λ (n : ℕ). min (getD sheet 8 0) n) (sym (most-are .hops)) ∙ sym hops-are, omega (arith, e))
 
@@ -106,22 +105,22 @@ module _ (sheet : List ℕ) where
       let at : (k : ℕ) → getD sheet k 0 ≡ perUnit * getD sheet k 0 = λ k. in-units refl in
       λ i. record { «send_least» = at 0 i; «send_greatest» = at 1 i; «receive_least» = at 2 i; «receive_greatest» = at 3 i }
 
-  -- ---- number k of record i, of records of m numbers from a place on
-  number : (s at m : ℕ) → place s ≡ at → listed s ≡ m → (i k : ℕ) → getD sheet (at + i * m + k) 0 ≡ numberOn sheet s i k
+  -- ---- a number of record i, of records of m numbers from a place on: at place k, which is that of its name
+  number : (s at m : ℕ) → place s ≡ at → listed s ≡ m → (i k : ℕ) (n : Name) → placeOf s n ≡ k → getD sheet (at + i * m + k) 0 ≡ numberOn sheet s i n
   unfolding numberOn
-  number s at m p l i k = rw (p, l)
+  number s at m p l i k n e = rw (p, l, e)
 
-  pub system-read : (at m : ℕ) → place 1 ≡ at → listed 1 ≡ m → (e x : ℕ) → e < length (networkOn sheet .systems) → x ≡ ticksAt inForce (getD sheet (at + e * m) 0)
+  pub system-read : (at m : ℕ) → place 1 ≡ at → listed 1 ≡ m → (e x : ℕ) → e < length (networkOn sheet .systems) → x ≡ ticksAt inForce (getD sheet (at + e * m + 0) 0)
       → _≡_ {A = EndSystem} (record { perbyte = x }) (systemAt (networkOn sheet) e)
   unfolding networkOn systemOn
   system-read at m p l e x h is =
-      let same = is ∙ ap (ticksAt inForce) (sym (first-number sheet (at + e * m)) ∙ number 1 at m p l e 0) in
+      let same = is ∙ ap (ticksAt inForce) (number 1 at m p l e 0 name.Speed (field-places .system-speed)) in
       (λ i. record { perbyte = same i }) ∙ sym (tabulate-at (systemOn sheet) (countOn sheet 1) e noSystem (omega (arith, systems-are)))
 
   pub vl-read : (at m : ℕ) → place 2 ≡ at → listed 2 ≡ m → (v : ℕ) → v < length (networkOn sheet .vls)
       → _≡_ {A = Vl}
       (record {
-        system = getD sheet (at + v * m) 0;
+        system = getD sheet (at + v * m + 0) 0;
         gap = 12500 * (getD sheet (at + v * m + 1) 0 % 256);
         sublinks = getD sheet (at + v * m + 2) 0;
         lmax = getD sheet (at + v * m + 3) 0;
@@ -130,17 +129,17 @@ module _ (sheet : List ℕ) where
   unfolding networkOn vlOn
   vl-read at m p l v h =
       let here = number 2 at m p l v in
-      let system = sym (first-number sheet (at + v * m)) ∙ here 0 in
-      let gap = ap₂ (λ (a b : ℕ). a * (b % 256)) (sym per-ms-is) (here 1) in
-      let links = here 2 in
-      let lmax = here 3 in
+      let system = here 0 name.EndSystem (field-places .vl-system) in
+      let gap = ap₂ (λ (a b : ℕ). a * (b % 256)) (sym per-ms-is) (here 1 name.Gap (field-places .vl-gap)) in
+      let links = here 2 name.SubLinks (field-places .vl-sub-links) in
+      let lmax = here 3 name.Lmax (field-places .vl-lmax) in
       (λ i. record { system = system i; gap = gap i; sublinks = links i; lmax = lmax i })
       ∙ sym (tabulate-at (vlOn sheet) (countOn sheet 2) v noVl (omega (arith, vls-are)))
 
   pub stream-read : (at m : ℕ) → place 3 ≡ at → listed 3 ≡ m → (s : ℕ) → s < length (networkOn sheet .streams) → (x : Bool) → x ≡ eqb (getD sheet (at + s * m + 2) 0) 1
       → _≡_ {A = Stream}
       (record {
-        vl = getD sheet (at + s * m) 0;
+        vl = getD sheet (at + s * m + 0) 0;
         sublink = getD sheet (at + s * m + 1) 0;
         sampling = x;
         size = getD sheet (at + s * m + 3) 0;
@@ -152,13 +151,13 @@ module _ (sheet : List ℕ) where
   unfolding networkOn streamOn
   stream-read at m p l s h x is =
       let here = number 3 at m p l s in
-      let vl = sym (first-number sheet (at + s * m)) ∙ here 0 in
-      let link = here 1 in
-      let sampling = is ∙ ap (λ (n : ℕ). eqb n 1) (here 2) in
-      let size = here 3 in
-      let least = here 4 in
-      let period = in-units (here 5) in
-      let jitter = in-units (here 6) in
+      let vl = here 0 name.Vl (field-places .stream-vl) in
+      let link = here 1 name.SubLink (field-places .stream-sub-link) in
+      let sampling = is ∙ ap (λ (n : ℕ). eqb n 1) (here 2 name.Kind (field-places .stream-kind)) in
+      let size = here 3 name.Size (field-places .stream-size) in
+      let least = here 4 name.LeastSize (field-places .stream-least-size) in
+      let period = in-units (here 5 name.Period (field-places .stream-period)) in
+      let jitter = in-units (here 6 name.Jitter (field-places .stream-jitter)) in
       (λ i. record {
         vl = vl i;
         sublink = link i;
@@ -170,28 +169,28 @@ module _ (sheet : List ℕ) where
       })
       ∙ sym (tabulate-at (streamOn sheet) (countOn sheet 3) s noStream (omega (arith, streams-are)))
 
-  pub port-read : (at m : ℕ) → place 4 ≡ at → listed 4 ≡ m → (p x : ℕ) → p < length (networkOn sheet .ports) → x ≡ ticksAt inForce (getD sheet (at + p * m) 0)
+  pub port-read : (at m : ℕ) → place 4 ≡ at → listed 4 ≡ m → (p x : ℕ) → p < length (networkOn sheet .ports) → x ≡ ticksAt inForce (getD sheet (at + p * m + 0) 0)
       → _≡_ {A = Port}
       (record { perbyte = x; least = getD sheet (at + p * m + 1) 0; greatest = getD sheet (at + p * m + 2) 0 })
       (portAt (networkOn sheet) p)
   unfolding networkOn portOn
   port-read at m pl l p x h is =
       let here = number 4 at m pl l p in
-      let speed = is ∙ ap (ticksAt inForce) (sym (first-number sheet (at + p * m)) ∙ here 0) in
-      let least = in-units (here 1) in
-      let greatest = in-units (here 2) in
+      let speed = is ∙ ap (ticksAt inForce) (here 0 name.Speed (field-places .port-speed)) in
+      let least = in-units (here 1 name.SwitchLeast (field-places .port-least)) in
+      let greatest = in-units (here 2 name.SwitchGreatest (field-places .port-greatest)) in
       (λ i. record { perbyte = speed i; least = least i; greatest = greatest i })
       ∙ sym (tabulate-at (portOn sheet) (countOn sheet 4) p noPort (omega (arith, ports-are)))
 
   pub hop-read : (at m : ℕ) → place 5 ≡ at → listed 5 ≡ m → (h : ℕ) → h < length (networkOn sheet .hops) → (x : Parent) → x ≡ parentOf (getD sheet (at + h * m + 2) 0)
       → _≡_ {A = Hop}
-      (record { vl = getD sheet (at + h * m) 0; port = getD sheet (at + h * m + 1) 0; parent = x })
+      (record { vl = getD sheet (at + h * m + 0) 0; port = getD sheet (at + h * m + 1) 0; parent = x })
       (hopAt (networkOn sheet) h)
   unfolding networkOn hopOn
   hop-read at m p l h row x is =
       let here = number 5 at m p l h in
-      let vl = sym (first-number sheet (at + h * m)) ∙ here 0 in
-      let port = here 1 in
-      let parent = is ∙ ap parentOf (here 2) in
+      let vl = here 0 name.Vl (field-places .hop-vl) in
+      let port = here 1 name.Port (field-places .hop-port) in
+      let parent = is ∙ ap parentOf (here 2 name.Parent (field-places .hop-parent)) in
       (λ i. record { vl = vl i; port = port i; parent = parent i })
       ∙ sym (tabulate-at (hopOn sheet) (countOn sheet 5) h noHop (omega (arith, hops-are)))

@@ -6,8 +6,12 @@ use lib.Dec.{eqb}
 use lib.ListN.{getD}
 use Rattle.base.specs.Tabulate.{tabulate}
 use Rattle.frame.specs.Tick.{perMs, perUnit, inForce}
+use Rattle.layout.specs.declared.Name.{Name}
+use Rattle.layout.specs.declared.Name.the-variants as name
+use Rattle.layout.specs.Layout.{placeOf}
+use Rattle.layout.specs.Limits.{most}
 use Rattle.layout.specs.Rows.{listed}
-use Rattle.layout.specs.Sizes.{most, capacity, place}
+use Rattle.layout.specs.Sizes.{capacity, place}
 use Rattle.network.specs.declared.EndSystem.{EndSystem}
 use Rattle.network.specs.declared.Vl.{Vl}
 use Rattle.network.specs.declared.Stream.{Stream}
@@ -26,42 +30,42 @@ use Rattle.sheet.specs.declared.Delays.{Delays}
 unfoldable pub countOn : List ℕ → ℕ → ℕ
 countOn sheet section = min (getD sheet (3 + section) 0) (most section)
 
--- number k of record i of a section
-unfoldable pub numberOn : List ℕ → ℕ → ℕ → ℕ → ℕ
-numberOn sheet section i k = getD sheet (place section + i * listed section + k) 0
+-- the number of the field of this name, of record i of a section
+unfoldable pub numberOn : List ℕ → ℕ → ℕ → Name → ℕ
+numberOn sheet section i n = getD sheet (place section + i * listed section + placeOf section n) 0
 
 unfoldable pub systemOn : List ℕ → ℕ → EndSystem
-systemOn sheet i = record { perbyte = ticksAt inForce (numberOn sheet 1 i 0) }
+systemOn sheet i = record { perbyte = ticksAt inForce (numberOn sheet 1 i name.Speed) }
 
 -- the milliseconds of a gap are less than 256
 unfoldable pub vlOn : List ℕ → ℕ → Vl
 vlOn sheet i = record {
-  system = numberOn sheet 2 i 0;
-  gap = perMs * (numberOn sheet 2 i 1 % 256);
-  sublinks = numberOn sheet 2 i 2;
-  lmax = numberOn sheet 2 i 3;
+  system = numberOn sheet 2 i name.EndSystem;
+  gap = perMs * (numberOn sheet 2 i name.Gap % 256);
+  sublinks = numberOn sheet 2 i name.SubLinks;
+  lmax = numberOn sheet 2 i name.Lmax;
 }
 
 unfoldable pub streamOn : List ℕ → ℕ → Stream
 streamOn sheet i = record {
-  vl = numberOn sheet 3 i 0;
-  sublink = numberOn sheet 3 i 1;
-  sampling = eqb (numberOn sheet 3 i 2) 1;
-  size = numberOn sheet 3 i 3;
-  least = numberOn sheet 3 i 4;
-  period = perUnit * numberOn sheet 3 i 5;
-  jitter = perUnit * numberOn sheet 3 i 6;
+  vl = numberOn sheet 3 i name.Vl;
+  sublink = numberOn sheet 3 i name.SubLink;
+  sampling = eqb (numberOn sheet 3 i name.Kind) 1;
+  size = numberOn sheet 3 i name.Size;
+  least = numberOn sheet 3 i name.LeastSize;
+  period = perUnit * numberOn sheet 3 i name.Period;
+  jitter = perUnit * numberOn sheet 3 i name.Jitter;
 }
 
 unfoldable pub portOn : List ℕ → ℕ → Port
 portOn sheet i = record {
-  perbyte = ticksAt inForce (numberOn sheet 4 i 0);
-  least = perUnit * numberOn sheet 4 i 1;
-  greatest = perUnit * numberOn sheet 4 i 2;
+  perbyte = ticksAt inForce (numberOn sheet 4 i name.Speed);
+  least = perUnit * numberOn sheet 4 i name.SwitchLeast;
+  greatest = perUnit * numberOn sheet 4 i name.SwitchGreatest;
 }
 
 unfoldable pub hopOn : List ℕ → ℕ → Hop
-hopOn sheet i = record { vl = numberOn sheet 5 i 0; port = numberOn sheet 5 i 1; parent = parentOf (numberOn sheet 5 i 2) }
+hopOn sheet i = record { vl = numberOn sheet 5 i name.Vl; port = numberOn sheet 5 i name.Port; parent = parentOf (numberOn sheet 5 i name.Parent) }
 
 unfoldable pub networkOn : List ℕ → Network
 networkOn sheet = record {

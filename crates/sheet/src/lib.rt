@@ -2,6 +2,7 @@
 // It holds the lists of the table one after the other, each at its place whatever the counts are, behind the delays and the counts. Any array is a sheet.
 use frame::Speed;
 use frame::Tick;
+use layout::places;
 use layout::sizes;
 use layout::sizes::SHEET;
 use network::EndSystem;
@@ -15,6 +16,7 @@ ghost use Prim.Native.Nat.{_≤_, min};
 ghost use lib.Dec.{eqb};
 ghost use lib.ListN.{length};
 ghost use Rattle.frame.specs.Tick.{inForce};
+ghost use Rattle.layout.specs.Limits.{limits};
 ghost use Rattle.network.specs.Network.{systemAt, vlAt, streamAt, portAt, hopAt};
 ghost use Rattle.table.specs.Decoded.{ticksAt, parentOf};
 ghost use Rattle.sheet.specs.Sheet.{networkOn, delaysIn};
@@ -39,31 +41,31 @@ fn at_most(stored: u64, most: usize) -> usize
 }
 
 pub fn systems_in(net: &[u64; SHEET]) -> usize
-    ensures { λ r. ⌜ (r ≡ length (networkOn (now (net .entry)) .systems)) × (r ≤ 64) ⌝ }
+    ensures { λ r. ⌜ (r ≡ length (networkOn (now (net .entry)) .systems)) × (r ≤ limits .systems) ⌝ }
 {
     at_most(net[4], sizes::MOST_SYSTEMS)
 }
 
 pub fn vls_in(net: &[u64; SHEET]) -> usize
-    ensures { λ r. ⌜ (r ≡ length (networkOn (now (net .entry)) .vls)) × (r ≤ 256) ⌝ }
+    ensures { λ r. ⌜ (r ≡ length (networkOn (now (net .entry)) .vls)) × (r ≤ limits .vls) ⌝ }
 {
     at_most(net[5], sizes::MOST_VLS)
 }
 
 pub fn streams_in(net: &[u64; SHEET]) -> usize
-    ensures { λ r. ⌜ (r ≡ length (networkOn (now (net .entry)) .streams)) × (r ≤ 512) ⌝ }
+    ensures { λ r. ⌜ (r ≡ length (networkOn (now (net .entry)) .streams)) × (r ≤ limits .streams) ⌝ }
 {
     at_most(net[6], sizes::MOST_STREAMS)
 }
 
 pub fn ports_in(net: &[u64; SHEET]) -> usize
-    ensures { λ r. ⌜ (r ≡ length (networkOn (now (net .entry)) .ports)) × (r ≤ 128) ⌝ }
+    ensures { λ r. ⌜ (r ≡ length (networkOn (now (net .entry)) .ports)) × (r ≤ limits .ports) ⌝ }
 {
     at_most(net[7], sizes::MOST_PORTS)
 }
 
 pub fn hops_in(net: &[u64; SHEET]) -> usize
-    ensures { λ r. ⌜ (r ≡ length (networkOn (now (net .entry)) .hops)) × (r ≤ 1024) ⌝ }
+    ensures { λ r. ⌜ (r ≡ length (networkOn (now (net .entry)) .hops)) × (r ≤ limits .hops) ⌝ }
 {
     at_most(net[8], sizes::MOST_HOPS)
 }
@@ -115,7 +117,7 @@ pub fn system_at(net: &[u64; SHEET], e: usize) -> EndSystem
         return EndSystem { perbyte: 0 };
     }
     EndSystem {
-        perbyte: ticks_at(net[sizes::SYSTEMS_AT + e * sizes::SYSTEM]),
+        perbyte: ticks_at(net[sizes::SYSTEMS_AT + e * sizes::SYSTEM + places::SYSTEM_SPEED]),
     }
 }
 
@@ -133,10 +135,10 @@ pub fn vl_at(net: &[u64; SHEET], v: usize) -> Vl
     }
     let at = sizes::VLS_AT + v * sizes::VL;
     Vl {
-        system: net[at] as usize,
-        gap: Tick::PER_MS * (net[at + 1] % 256),
-        sublinks: net[at + 2] as usize,
-        lmax: net[at + 3],
+        system: net[at + places::VL_SYSTEM] as usize,
+        gap: Tick::PER_MS * (net[at + places::VL_GAP] % 256),
+        sublinks: net[at + places::VL_SUBLINKS] as usize,
+        lmax: net[at + places::VL_LMAX],
     }
 }
 
@@ -156,13 +158,13 @@ pub fn stream_at(net: &[u64; SHEET], s: usize) -> Stream
     }
     let at = sizes::STREAMS_AT + s * sizes::STREAM;
     Stream {
-        vl: net[at] as usize,
-        sublink: net[at + 1] as usize,
-        sampling: is_sampling(net[at + 2]),
-        size: net[at + 3],
-        least: net[at + 4],
-        period: net[at + 5],
-        jitter: net[at + 6],
+        vl: net[at + places::STREAM_VL] as usize,
+        sublink: net[at + places::STREAM_SUBLINK] as usize,
+        sampling: is_sampling(net[at + places::STREAM_KIND]),
+        size: net[at + places::STREAM_SIZE],
+        least: net[at + places::STREAM_LEAST_SIZE],
+        period: net[at + places::STREAM_PERIOD],
+        jitter: net[at + places::STREAM_JITTER],
     }
 }
 
@@ -178,9 +180,9 @@ pub fn port_at(net: &[u64; SHEET], p: usize) -> Port
     }
     let at = sizes::PORTS_AT + p * sizes::PORT;
     Port {
-        perbyte: ticks_at(net[at]),
-        least: net[at + 1],
-        greatest: net[at + 2],
+        perbyte: ticks_at(net[at + places::PORT_SPEED]),
+        least: net[at + places::PORT_LEAST],
+        greatest: net[at + places::PORT_GREATEST],
     }
 }
 
@@ -196,8 +198,8 @@ pub fn hop_at(net: &[u64; SHEET], h: usize) -> Hop
     }
     let at = sizes::HOPS_AT + h * sizes::HOP;
     Hop {
-        vl: net[at] as usize,
-        port: net[at + 1] as usize,
-        parent: parent_of(net[at + 2]),
+        vl: net[at + places::HOP_VL] as usize,
+        port: net[at + places::HOP_PORT] as usize,
+        parent: parent_of(net[at + places::HOP_PARENT]),
     }
 }

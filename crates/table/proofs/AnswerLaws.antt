@@ -4,7 +4,8 @@ use mathlib.Core.Path.{_≡_, refl, ap}
 use mathlib.Core.Bool.{Bool, true, false, _&&_, true≢false, and-eq-true-iff}
 use mathlib.Core.List.{List, [], _∷_}
 use mathlib.Core.Option.{Option, none, some}
-use Prim.Native.Nat.{ℕ, zero, suc, _*_, _%_, _≤_, _<_}
+use Prim.Native.Nat.{ℕ, zero, suc, _*_, _/_, _%_, _≤_, _<_}
+use native.Mathlib.Nat.{div-add-mod'}
 use native.Mathlib.Omega.{arith}
 use lib.Dec.{ltb, eqb}
 use lib.ListN.{length}
@@ -15,6 +16,7 @@ use Rattle.base.proofs.LeastLaws.{least-none, none-was}
 use Rattle.layout.specs.declared.Way.the-variants.{Reading, Writing}
 use Rattle.base.specs.Tests.{isSome, numberOr0}
 use Rattle.layout.specs.Rows.{listed, rowFault}
+use Rattle.layout.proofs.LayoutLaws.{listed-is}
 use Rattle.table.specs.declared.Answer.{Answer}
 use Rattle.table.specs.Answers.{answer, accepted, firstGiven}
 use Rattle.table.specs.Sections.{headerRow, rows, from, row}
@@ -127,42 +129,45 @@ pub record Writable (ls : Lists) : Type 0 where
   pub header : rowFault Writing 0 (headerFor ls) ≡ none
   pub good : (s i : ℕ) → suc s < 6 → i < recordsIn ls (suc s) → rowFault Writing (suc s) (meantRow ls (suc s) i) ≡ none
 
+-- a list is a whole number of records of m numbers exactly if none is left over
+whole-list : (l : List ℕ) (m : ℕ) → length l % m ≡ 0 → length l ≡ length l / m * m
+whole-list l m e = omega (arith, div-add-mod' (length l) m)
+
+list-whole : (l : List ℕ) (m : ℕ) → length l ≡ length l / m * m → length l % m ≡ 0
+list-whole l m e = omega (arith, div-add-mod' (length l) m)
+
 whole-was : (ls : Lists) → whole ls ≡ true
     → (length (ls .delays) ≡ 4) × ((s : ℕ) → suc s < 6 → length (listFor ls (suc s)) ≡ recordsIn ls (suc s) * listed (suc s))
-unfolding whole listFor recordsIn listed
+unfolding whole listFor recordsIn
 whole-was ls e =
-    let hops = eqb (length (ls .hops) % 3) 0 in
-    let ports = eqb (length (ls .ports) % 3) 0 in
-    let streams = eqb (length (ls .streams) % 7) 0 in
-    let vls = eqb (length (ls .vls) % 4) 0 in
+    let hops = eqb (length (ls .hops) % listed 5) 0 in
+    let ports = eqb (length (ls .ports) % listed 4) 0 in
+    let streams = eqb (length (ls .streams) % listed 3) 0 in
+    let vls = eqb (length (ls .vls) % listed 2) 0 in
     let e1 = and-eq-true-iff (eqb (length (ls .delays)) 4) (vls && (streams && (ports && hops))) .0 e in
     let e2 = and-eq-true-iff vls (streams && (ports && hops)) .0 (e1 .1) in
     let e3 = and-eq-true-iff streams (ports && hops) .0 (e2 .1) in
     let e4 = and-eq-true-iff ports hops .0 (e3 .1) in
     (eqb-true _ _ (e1 .0), by-list (eqb-true _ _ (e2 .0)) (eqb-true _ _ (e3 .0)) (eqb-true _ _ (e4 .0)) (eqb-true _ _ (e4 .1)))
   where
-    by-list : length (ls .vls) % 4 ≡ 0 → length (ls .streams) % 7 ≡ 0 → length (ls .ports) % 3 ≡ 0 → length (ls .hops) % 3 ≡ 0
+    by-list : length (ls .vls) % listed 2 ≡ 0 → length (ls .streams) % listed 3 ≡ 0 → length (ls .ports) % listed 4 ≡ 0 → length (ls .hops) % listed 5 ≡ 0
         → (s : ℕ) → suc s < 6 → length (listFor ls (suc s)) ≡ recordsIn ls (suc s) * listed (suc s)
-    by-list v st p h zero high = omega arith
-    by-list v st p h (suc zero) high = omega arith
-    by-list v st p h (suc (suc zero)) high = omega arith
-    by-list v st p h (suc (suc (suc zero))) high = omega arith
-    by-list v st p h (suc (suc (suc (suc zero)))) high = omega arith
+    by-list v st p h zero high = rw (listed-is 1) (omega arith)
+    by-list v st p h (suc zero) high = whole-list (ls .vls) (listed 2) v
+    by-list v st p h (suc (suc zero)) high = whole-list (ls .streams) (listed 3) st
+    by-list v st p h (suc (suc (suc zero))) high = whole-list (ls .ports) (listed 4) p
+    by-list v st p h (suc (suc (suc (suc zero)))) high = whole-list (ls .hops) (listed 5) h
     by-list v st p h (suc (suc (suc (suc (suc s))))) high = absurd (omega arith)
 
 whole-is : (ls : Lists) → Writable ls → whole ls ≡ true
-unfolding whole listFor recordsIn listed
+unfolding whole listFor recordsIn
 whole-is ls w =
-    let two = w .full 1 (omega arith) in
-    let three = w .full 2 (omega arith) in
-    let four = w .full 3 (omega arith) in
-    let five = w .full 4 (omega arith) in
     rw (
       eq-eqb (length (ls .delays)) 4 (w .delays),
-      eq-eqb (length (ls .vls) % 4) 0 (omega arith),
-      eq-eqb (length (ls .streams) % 7) 0 (omega arith),
-      eq-eqb (length (ls .ports) % 3) 0 (omega arith),
-      eq-eqb (length (ls .hops) % 3) 0 (omega arith),
+      eq-eqb (length (ls .vls) % listed 2) 0 (list-whole (ls .vls) (listed 2) (w .full 1 (omega arith))),
+      eq-eqb (length (ls .streams) % listed 3) 0 (list-whole (ls .streams) (listed 3) (w .full 2 (omega arith))),
+      eq-eqb (length (ls .ports) % listed 4) 0 (list-whole (ls .ports) (listed 4) (w .full 3 (omega arith))),
+      eq-eqb (length (ls .hops) % listed 5) 0 (list-whole (ls .hops) (listed 5) (w .full 4 (omega arith))),
     )
 
 pub write-was : (ls : Lists) (room : ℕ) → writeAnswer ls room ≡ accepted → Writable ls

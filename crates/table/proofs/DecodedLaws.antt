@@ -6,6 +6,7 @@ use lib.ListN.{length, getD}
 use Rattle.base.proofs.TabulateLaws.{length-tabulate, tabulate-at}
 use Rattle.frame.specs.Tick.{perMs, inForce}
 use Rattle.frame.proofs.TickLaws.{per-unit-is}
+use Rattle.layout.specs.declared.Name.the-variants as name
 use Rattle.network.specs.declared.EndSystem.{EndSystem}
 use Rattle.network.specs.declared.Vl.{Vl}
 use Rattle.network.specs.declared.Stream.{Stream}
@@ -63,7 +64,7 @@ module _ (ls : Lists) (i : ℕ) where
     unfolding networkAt
     system-there = tabulate-at (systemIn inForce ls) (recordsIn ls 1) i noSystem h
 
-    pub system-per-byte : systemAt (networkOf ls) i .perbyte ≡ ticksAt inForce (numberAt ls 1 i 0)
+    pub system-per-byte : systemAt (networkOf ls) i .perbyte ≡ ticksAt inForce (numberAt ls 1 i name.Speed)
     unfolding systemIn
     system-per-byte = ap (λ (x : EndSystem). x .perbyte) system-there
 
@@ -74,15 +75,15 @@ module _ (ls : Lists) (i : ℕ) where
     unfolding networkAt
     vl-there = tabulate-at (vlIn inForce ls) (recordsIn ls 2) i noVl h
 
-    pub vl-gap : vlAt (networkOf ls) i .gap ≡ perMs * numberAt ls 2 i 1
+    pub vl-gap : vlAt (networkOf ls) i .gap ≡ perMs * numberAt ls 2 i name.Gap
     unfolding vlIn
     vl-gap = ap (λ (x : Vl). x .gap) vl-there
 
-    pub vl-sub-links : vlAt (networkOf ls) i .sublinks ≡ numberAt ls 2 i 2
+    pub vl-sub-links : vlAt (networkOf ls) i .sublinks ≡ numberAt ls 2 i name.SubLinks
     unfolding vlIn
     vl-sub-links = ap (λ (x : Vl). x .sublinks) vl-there
 
-    pub vl-lmax : vlAt (networkOf ls) i .lmax ≡ numberAt ls 2 i 3
+    pub vl-lmax : vlAt (networkOf ls) i .lmax ≡ numberAt ls 2 i name.Lmax
     unfolding vlIn
     vl-lmax = ap (λ (x : Vl). x .lmax) vl-there
 
@@ -93,21 +94,21 @@ module _ (ls : Lists) (i : ℕ) where
     unfolding networkAt
     stream-there = tabulate-at (streamIn inForce ls) (recordsIn ls 3) i noStream h
 
-    pub stream-size : streamAt (networkOf ls) i .size ≡ numberAt ls 3 i 3
+    pub stream-size : streamAt (networkOf ls) i .size ≡ numberAt ls 3 i name.Size
     unfolding streamIn
     stream-size = ap (λ (x : Stream). x .size) stream-there
 
-    pub stream-least-size : streamAt (networkOf ls) i .least ≡ numberAt ls 3 i 4
+    pub stream-least-size : streamAt (networkOf ls) i .least ≡ numberAt ls 3 i name.LeastSize
     unfolding streamIn
     stream-least-size = ap (λ (x : Stream). x .least) stream-there
 
-    pub stream-period : streamAt (networkOf ls) i .period ≡ numberAt ls 3 i 5
+    pub stream-period : streamAt (networkOf ls) i .period ≡ numberAt ls 3 i name.Period
     unfolding streamIn
-    stream-period = ap (λ (x : Stream). x .period) stream-there ∙ per-unit-is (numberAt ls 3 i 5)
+    stream-period = ap (λ (x : Stream). x .period) stream-there ∙ per-unit-is (numberAt ls 3 i name.Period)
 
-    pub stream-jitter : streamAt (networkOf ls) i .jitter ≡ numberAt ls 3 i 6
+    pub stream-jitter : streamAt (networkOf ls) i .jitter ≡ numberAt ls 3 i name.Jitter
     unfolding streamIn
-    stream-jitter = ap (λ (x : Stream). x .jitter) stream-there ∙ per-unit-is (numberAt ls 3 i 6)
+    stream-jitter = ap (λ (x : Stream). x .jitter) stream-there ∙ per-unit-is (numberAt ls 3 i name.Jitter)
 
 -- ---- ports
 module _ (ls : Lists) (i : ℕ) where
@@ -116,14 +117,14 @@ module _ (ls : Lists) (i : ℕ) where
     unfolding networkAt
     port-there = tabulate-at (portIn inForce ls) (recordsIn ls 4) i noPort h
 
-    pub port-per-byte : portAt (networkOf ls) i .perbyte ≡ ticksAt inForce (numberAt ls 4 i 0)
+    pub port-per-byte : portAt (networkOf ls) i .perbyte ≡ ticksAt inForce (numberAt ls 4 i name.Speed)
     unfolding portIn
     port-per-byte = ap (λ (x : Port). x .perbyte) port-there
 
-    pub port-delay-least : portAt (networkOf ls) i .least ≡ numberAt ls 4 i 1
+    pub port-delay-least : portAt (networkOf ls) i .least ≡ numberAt ls 4 i name.SwitchLeast
     unfolding portIn
-    port-delay-least = ap (λ (x : Port). x .least) port-there ∙ per-unit-is (numberAt ls 4 i 1)
+    port-delay-least = ap (λ (x : Port). x .least) port-there ∙ per-unit-is (numberAt ls 4 i name.SwitchLeast)
 
-    pub port-delay-greatest : portAt (networkOf ls) i .greatest ≡ numberAt ls 4 i 2
+    pub port-delay-greatest : portAt (networkOf ls) i .greatest ≡ numberAt ls 4 i name.SwitchGreatest
     unfolding portIn
-    port-delay-greatest = ap (λ (x : Port). x .greatest) port-there ∙ per-unit-is (numberAt ls 4 i 2)
+    port-delay-greatest = ap (λ (x : Port). x .greatest) port-there ∙ per-unit-is (numberAt ls 4 i name.SwitchGreatest)

@@ -18,9 +18,9 @@ use Rattle.bits.proofs.PartLaws.{fit-at}
 use Rattle.bits.proofs.RecordLaws.{read-part}
 use Rattle.layout.specs.declared.Way.{Way}
 use Rattle.layout.specs.declared.Way.the-variants.{Reading, Writing}
-use Rattle.layout.specs.Layout.{header, layout, blank, widths, size}
-use Rattle.layout.specs.Rows.{rowAt, converted, listed, rowFault}
-use Rattle.layout.proofs.LayoutLaws.{fields-are, length-widths, whole-bytes, size-most}
+use Rattle.layout.specs.Layout.{header, layoutIn, layout, blank, widths, size}
+use Rattle.layout.specs.Rows.{rowAt, converted, rowFault}
+use Rattle.layout.proofs.LayoutLaws.{fields-are, listed-is, length-widths, whole-bytes, size-most}
 use Rattle.layout.proofs.RowLaws.{length-converted}
 use Rattle.layout.proofs.FieldLaws.{number-was}
 use Rattle.layout.proofs.FaultLaws.{faultless}
@@ -34,12 +34,12 @@ use Rattle.table.proofs.WriteLaws.{count}
 -- ---- the numbers
 -- either way they stay what they are
 pub header-stays : (way : Way) (row : List ℕ) → rowFault way 0 row ≡ none → (k : ℕ) → k < 10 → getD (converted way (layout 0) row) k 0 ≡ getD row k 0
-unfolding numberAt isNumber layout header
+unfolding numberAt isNumber layoutIn header
 header-stays way row e k h = same-number way 0 row (faultless way 0 row e) k (at (numberAt (layout 0)) 10 tt k h)
 
 -- version 1
 version-is : (row : List ℕ) → rowFault Reading 0 row ≡ none → getD row 0 0 ≡ 1
-unfolding layout header
+unfolding layoutIn header
 version-is row e =
     let range = number-was Reading (getD (layout 0) 0 blank) 1 1 (getD row 0 0) (getD (converted Reading (layout 0) row) 0 0) refl
     (faultless Reading 0 row e .fields 0 (omega arith)) in
@@ -92,7 +92,6 @@ module _ (ls : Lists) where
   -- a row that has the counts and then the delays, converted, is the header
   pub header-meant : (raw : List ℕ) → ((s : ℕ) → s < 6 → getD (converted Reading (layout 0) raw) s 0 ≡ count ls s)
       → take 4 (drop 6 (converted Reading (layout 0) raw)) ≡ ls .delays → headerFor ls ≡ converted Reading (layout 0) raw
-  unfolding listed
   header-meant raw counts delays =
       let vs = converted Reading (layout 0) raw in
       let n = length-converted Reading (layout 0) raw ∙ fields-are 0 in
@@ -102,11 +101,11 @@ module _ (ls : Lists) where
       ∙ tabulate-same (λ i. getD vs i 0) (count ls) 6 counts in
       let ten : take 10 vs ≡ tabulate (count ls) 6 ++ ls .delays = take-add 6 4 vs ∙ ap₂ _++_ six delays in
       let last : replicate {A = ℕ} (length (layout 0) - 10) 0 ≡ 0 ∷ [] = ap (λ (m : ℕ). replicate {A = ℕ} (m - 10) 0) (fields-are 0) in
-      header-is ∙ sym (append-assoc (tabulate (count ls) 6) (ls .delays) (0 ∷ [])) ∙ ap₂ _++_ (sym ten) (sym last) ∙ padded 0 raw
+      header-is ∙ sym (append-assoc (tabulate (count ls) 6) (ls .delays) (0 ∷ [])) ∙ ap₂ _++_ (sym ten) (sym last) ∙ rw (listed-is 0) at (padded 0 raw)
 
 -- ---- counts that fit their fields of at most 12 bits take few bytes
 few-bits : (s : ℕ) → s < 6 → 2 ^ getD (widths 0) s 0 ≤ 4096
-unfolding widths layout header
+unfolding widths layoutIn header
 few-bits s h = leb→le _ _ (at (λ k. leb (2 ^ getD (widths 0) k 0) 4096) 6 tt s h)
 
 start-most : (f : ℕ → ℕ) (n : ℕ) → ((s : ℕ) → s < n → f s ≤ 4096) → start f n ≤ n * 57344

@@ -8,7 +8,7 @@ use lib.ListN.{getD, drop}
 use lib.Seq.{getD-take, getD-drop}
 use Rattle.layout.specs.declared.Way.the-variants.{Reading}
 use Rattle.bits.specs.Tables.{Fit}
-use Rattle.layout.specs.Layout.{layout, widths, size}
+use Rattle.layout.specs.Layout.{layout, kindsOf, kindOf, widths, size}
 use Rattle.layout.specs.Rows.{converted, listed}
 use Rattle.layout.proofs.RoomLaws.{row-fits}
 use Rattle.layout.proofs.PlainLaws.{PlainEndSystem, end-system-plain, PlainVl, vl-plain, PlainStream, stream-plain, PlainPort, port-plain}
@@ -37,13 +37,17 @@ module _ (bytes : List ℕ) where
   -- ---- the rows in plain facts
   module _ (sound : Sound bytes) (i : ℕ) where
     pub system-row : i < rows bytes 1 → PlainEndSystem (converted Reading (layout 1) (row bytes 1 i))
-    system-row h = end-system-plain (row bytes 1 i) (sound-rows bytes sound 1 i (omega arith) h)
+    unfolding kindOf kindsOf
+    system-row h = end-system-plain 1 (row bytes 1 i) (sound-rows bytes sound 1 i (omega arith) h)
 
     pub vl-row : i < rows bytes 2 → PlainVl (converted Reading (layout 2) (row bytes 2 i))
-    vl-row h = vl-plain (row bytes 2 i) (sound-rows bytes sound 2 i (omega arith) h) (fit-row 2 i)
+    unfolding kindOf kindsOf
+    vl-row h = vl-plain 1 (row bytes 2 i) (sound-rows bytes sound 2 i (omega arith) h) (fit-row 2 i)
 
     pub stream-row : i < rows bytes 3 → PlainStream (converted Reading (layout 3) (row bytes 3 i))
-    stream-row h = stream-plain (row bytes 3 i) (sound-rows bytes sound 3 i (omega arith) h) (fit-row 3 i)
+    unfolding kindOf kindsOf
+    stream-row h = stream-plain 1 (row bytes 3 i) (sound-rows bytes sound 3 i (omega arith) h) (fit-row 3 i)
 
     pub port-row : i < rows bytes 4 → PlainPort (converted Reading (layout 4) (row bytes 4 i))
-    port-row h = port-plain (row bytes 4 i) (sound-rows bytes sound 4 i (omega arith) h)
+    unfolding kindOf kindsOf
+    port-row h = port-plain 1 (row bytes 4 i) (sound-rows bytes sound 4 i (omega arith) h)

@@ -15,8 +15,11 @@ use Rattle.frame.specs.Tick.{perMs, inForce}
 use Rattle.frame.proofs.TickLaws.{per-byte-at-100, per-byte-at-10}
 use Rattle.frame.proofs.GapLaws.{ms-back, gap-in-ms, gap-bounds}
 use Rattle.layout.specs.declared.Way.the-variants.{Reading}
-use Rattle.layout.specs.Layout.{layout}
-use Rattle.layout.specs.Rows.{converted, listed}
+use Rattle.layout.specs.declared.Name.{Name}
+use Rattle.layout.specs.declared.Name.the-variants as name
+use Rattle.layout.specs.Layout.{layout, placeOf}
+use Rattle.layout.specs.Rows.{named, converted, listed}
+use Rattle.layout.proofs.SizeLaws.{most-are, field-places}
 use Rattle.layout.proofs.LayoutLaws.{listed-is}
 use Rattle.layout.proofs.PlainLaws.{header-plain}
 use Rattle.network.specs.Network.{Network, systemAt, vlAt, streamAt, portAt}
@@ -63,21 +66,25 @@ module _ (bytes : List ℕ) where
   unfolding count
   count-read s h = count-is bytes (suc s) h
 
-  pub number-read : (s i k : ℕ) → suc s < 6 → i < rows bytes (suc s) → k < listed (suc s)
-      → numberAt (unpacked bytes) (suc s) i k ≡ getD (converted Reading (layout (suc s)) (row bytes (suc s) i)) k 0
-  unfolding numberAt listFor unpacked
-  number-read zero i k h l m = record-number bytes 1 (rows bytes 1) i k l m
-  number-read (suc zero) i k h l m = record-number bytes 2 (rows bytes 2) i k l m
-  number-read (suc (suc zero)) i k h l m = record-number bytes 3 (rows bytes 3) i k l m
-  number-read (suc (suc (suc zero))) i k h l m = record-number bytes 4 (rows bytes 4) i k l m
-  number-read (suc (suc (suc (suc zero)))) i k h l m = record-number bytes 5 (rows bytes 5) i k l m
-  number-read (suc (suc (suc (suc (suc s))))) i k h l m = absurd (omega arith)
+  pub number-read : (s i : ℕ) (n : Name) → suc s < 6 → i < rows bytes (suc s) → placeOf (suc s) n < listed (suc s)
+      → numberAt (unpacked bytes) (suc s) i n ≡ named (suc s) (converted Reading (layout (suc s)) (row bytes (suc s) i)) n
+  unfolding numberAt named listFor unpacked
+  number-read zero i n h l m = record-number bytes 1 (rows bytes 1) i (placeOf 1 n) l m
+  number-read (suc zero) i n h l m = record-number bytes 2 (rows bytes 2) i (placeOf 2 n) l m
+  number-read (suc (suc zero)) i n h l m = record-number bytes 3 (rows bytes 3) i (placeOf 3 n) l m
+  number-read (suc (suc (suc zero))) i n h l m = record-number bytes 4 (rows bytes 4) i (placeOf 4 n) l m
+  number-read (suc (suc (suc (suc zero)))) i n h l m = record-number bytes 5 (rows bytes 5) i (placeOf 5 n) l m
+  number-read (suc (suc (suc (suc (suc s))))) i n h l m = absurd (omega arith)
 
   pub delay-read : (k : ℕ) → k < 4 → getD (delaysOf bytes) k 0 ≡ getD (converted Reading (layout 0) (headerRow bytes)) (6 + k) 0
   unfolding delaysOf
   delay-read k h =
       let vs = converted Reading (layout 0) (headerRow bytes) in
       getD-take 4 (drop 6 vs) k 0 h ∙ getD-drop 6 vs k 0
+
+  delay-named : (k : ℕ) (n : Name) → k < 4 → placeOf 0 n ≡ 6 + k → getD (delaysOf bytes) k 0 ≡ named 0 (converted Reading (layout 0) (headerRow bytes)) n
+  unfolding named
+  delay-named k n h e = rw e (delay-read k h)
 
 -- ---- the ranges
 speed : (mbit : ℕ) → (mbit ≡ 100) ⊎ (mbit ≡ 10) → SpeedRange (ticksAt inForce mbit)
@@ -91,21 +98,21 @@ module _ (bytes : List ℕ) (sound : Sound bytes) (i : ℕ) where
   unfolding networkIn
   system-range h =
       let at = count-read bytes 0 (omega arith) in
-      rw (system-per-byte (unpacked bytes) i (omega arith), number-read bytes 0 i 0 (omega arith) h (omega (arith, listed-is 1)))
+      rw (system-per-byte (unpacked bytes) i (omega arith), number-read bytes 0 i name.Speed (omega arith) h (omega (arith, listed-is 1, field-places .system-speed)))
       (speed _ (system-row bytes sound i h .speed))
 
   vl-range : i < rows bytes 2 → VlRange (vlAt (networkIn bytes) i)
   unfolding networkIn
   vl-range h =
       let at : i < recordsIn (unpacked bytes) 2 = omega (arith, count-read bytes 1 (omega arith)) in
-      let number : (k : ℕ) → k < 4 → numberAt (unpacked bytes) 2 i k ≡ getD (converted Reading (layout 2) (row bytes 2 i)) k 0
-      = λ k l. number-read bytes 1 i k (omega arith) h (omega (arith, listed-is 2)) in
+      let number : (n : Name) → placeOf 2 n < 4 → numberAt (unpacked bytes) 2 i n ≡ named 2 (converted Reading (layout 2) (row bytes 2 i)) n
+      = λ n l. number-read bytes 1 i n (omega arith) h (omega (arith, listed-is 2)) in
       let p = vl-row bytes sound i h in
-      let gap = vl-gap (unpacked bytes) i at ∙ ap (λ (ms : ℕ). perMs * ms) (number 1 (omega arith)) in
+      let gap = vl-gap (unpacked bytes) i at ∙ ap (λ (ms : ℕ). perMs * ms) (number name.Gap (omega (arith, field-places .vl-gap))) in
       let stored = gap-in-ms (p .code) _ (ms-back _ (p .code) (p .gap)) in
       let bounds = gap-bounds (p .code) _ stored in
-      let links = vl-sub-links (unpacked bytes) i at ∙ number 2 (omega arith) in
-      let lmax = vl-lmax (unpacked bytes) i at ∙ number 3 (omega arith) in
+      let links = vl-sub-links (unpacked bytes) i at ∙ number name.SubLinks (omega (arith, field-places .vl-sub-links)) in
+      let lmax = vl-lmax (unpacked bytes) i at ∙ number name.Lmax (omega (arith, field-places .vl-lmax)) in
       record {
         code = p .code;
         gap = rw gap stored;
@@ -121,13 +128,13 @@ module _ (bytes : List ℕ) (sound : Sound bytes) (i : ℕ) where
   unfolding networkIn
   stream-range h =
       let at : i < recordsIn (unpacked bytes) 3 = omega (arith, count-read bytes 2 (omega arith)) in
-      let number : (k : ℕ) → k < 7 → numberAt (unpacked bytes) 3 i k ≡ getD (converted Reading (layout 3) (row bytes 3 i)) k 0
-      = λ k l. number-read bytes 2 i k (omega arith) h (omega (arith, listed-is 3)) in
+      let number : (n : Name) → placeOf 3 n < 7 → numberAt (unpacked bytes) 3 i n ≡ named 3 (converted Reading (layout 3) (row bytes 3 i)) n
+      = λ n l. number-read bytes 2 i n (omega arith) h (omega (arith, listed-is 3)) in
       let p = stream-row bytes sound i h in
-      let size = stream-size (unpacked bytes) i at ∙ number 3 (omega arith) in
-      let least = stream-least-size (unpacked bytes) i at ∙ number 4 (omega arith) in
-      let period = stream-period (unpacked bytes) i at ∙ number 5 (omega arith) in
-      let jitter = stream-jitter (unpacked bytes) i at ∙ number 6 (omega arith) in
+      let size = stream-size (unpacked bytes) i at ∙ number name.Size (omega (arith, field-places .stream-size)) in
+      let least = stream-least-size (unpacked bytes) i at ∙ number name.LeastSize (omega (arith, field-places .stream-least-size)) in
+      let period = stream-period (unpacked bytes) i at ∙ number name.Period (omega (arith, field-places .stream-period)) in
+      let jitter = stream-jitter (unpacked bytes) i at ∙ number name.Jitter (omega (arith, field-places .stream-jitter)) in
       record {
         least-size-least = rw least (p .least-m-least);
         least-size-greatest = rw (least, size) (p .least-m-greatest);
@@ -141,13 +148,13 @@ module _ (bytes : List ℕ) (sound : Sound bytes) (i : ℕ) where
   unfolding networkIn
   port-range h =
       let at : i < recordsIn (unpacked bytes) 4 = omega (arith, count-read bytes 3 (omega arith)) in
-      let number : (k : ℕ) → k < 3 → numberAt (unpacked bytes) 4 i k ≡ getD (converted Reading (layout 4) (row bytes 4 i)) k 0
-      = λ k l. number-read bytes 3 i k (omega arith) h (omega (arith, listed-is 4)) in
+      let number : (n : Name) → placeOf 4 n < 3 → numberAt (unpacked bytes) 4 i n ≡ named 4 (converted Reading (layout 4) (row bytes 4 i)) n
+      = λ n l. number-read bytes 3 i n (omega arith) h (omega (arith, listed-is 4)) in
       let p = port-row bytes sound i h in
-      let least = port-delay-least (unpacked bytes) i at ∙ number 1 (omega arith) in
-      let greatest = port-delay-greatest (unpacked bytes) i at ∙ number 2 (omega arith) in
+      let least = port-delay-least (unpacked bytes) i at ∙ number name.SwitchLeast (omega (arith, field-places .port-least)) in
+      let greatest = port-delay-greatest (unpacked bytes) i at ∙ number name.SwitchGreatest (omega (arith, field-places .port-greatest)) in
       record {
-        per-byte = rw (port-per-byte (unpacked bytes) i at, number 0 (omega arith)) (speed _ (p .speed));
+        per-byte = rw (port-per-byte (unpacked bytes) i at, number name.Speed (omega (arith, field-places .port-speed))) (speed _ (p .speed));
         delay-least = rw (least, greatest) (p .delay-least);
         delay-greatest = rw greatest (p .delay-greatest);
       }
@@ -157,23 +164,24 @@ unfolding networkIn unpacked
 sound-ranges bytes sound =
     let ls = unpacked bytes in
     let limit = few bytes (sound .header) in
+    let m = most-are in
     let header = header-plain (headerRow bytes) (sound .header) in
     let systems = systems-are ls ∙ count-read bytes 0 (omega arith) in
     let vls = vls-are ls ∙ count-read bytes 1 (omega arith) in
     let streams = streams-are ls ∙ count-read bytes 2 (omega arith) in
     let ports = ports-are ls ∙ count-read bytes 3 (omega arith) in
     let hops = hops-are ls ∙ count-read bytes 4 (omega arith) in
-    let s0 = send-least ls ∙ delay-read bytes 0 (omega arith) in
-    let s1 = send-greatest ls ∙ delay-read bytes 1 (omega arith) in
-    let r0 = receive-least ls ∙ delay-read bytes 2 (omega arith) in
-    let r1 = receive-greatest ls ∙ delay-read bytes 3 (omega arith) in
+    let s0 = send-least ls ∙ delay-named bytes 0 name.SendLeast (omega arith) (field-places .send-least) in
+    let s1 = send-greatest ls ∙ delay-named bytes 1 name.SendGreatest (omega arith) (field-places .send-greatest) in
+    let r0 = receive-least ls ∙ delay-named bytes 2 name.ReceiveLeast (omega arith) (field-places .receive-least) in
+    let r1 = receive-greatest ls ∙ delay-named bytes 3 name.ReceiveGreatest (omega arith) (field-places .receive-greatest) in
     record {
       in-force = rules-are ls;
-      few-systems = rw systems (limit .systems);
-      few-vls = rw vls (limit .vls);
-      few-streams = rw streams (limit .streams);
-      few-ports = rw ports (limit .ports);
-      few-hops = rw hops (limit .hops);
+      few-systems = rw systems (omega (arith, limit 0 (omega arith), m .systems));
+      few-vls = rw vls (omega (arith, limit 1 (omega arith), m .vls));
+      few-streams = rw streams (omega (arith, limit 2 (omega arith), m .streams));
+      few-ports = rw ports (omega (arith, limit 3 (omega arith), m .ports));
+      few-hops = rw hops (omega (arith, limit 4 (omega arith), m .hops));
       send-least = rw (s0, s1) (header .send-least);
       send-greatest = rw s1 (header .send-greatest);
       receive-least = rw (r0, r1) (header .receive-least);

@@ -1,9 +1,10 @@
 -- The reader over the unpacker: lists with room for every good header never give 11, so the two agree on answers 1 to 4; and what the lists then hold is what the reader's network is made of.
 -- Assumes nothing.
-use Prim.Native.Nat.{ℕ, _*_, _≤_, _<_}
+use Prim.Native.Nat.{ℕ, suc, _*_, _≤_, _<_}
 use mathlib.Core.List.{List, [], _∷_, _++_}
 use mathlib.Core.Option.{Option, none, some}
 use mathlib.Core.Path.{_≡_, sym, ap, _∙_}
+use native.Mathlib.Nat.{mul-le-mul-right}
 use native.Mathlib.Omega.{arith}
 use borrow.Author.Tests.{le-leb}
 use lib.Dec.{ltb, eqb}
@@ -11,7 +12,7 @@ use lib.ListN.{length}
 use Rattle.base.specs.Tests.{numberOr0}
 use Rattle.layout.specs.declared.Way.the-variants.{Reading}
 use Rattle.layout.specs.Rows.{listed, rowFault}
-use Rattle.layout.proofs.LayoutLaws.{listed-is}
+use Rattle.layout.specs.Limits.{most}
 use Rattle.layout.proofs.PlainLaws.{header-plain}
 use Rattle.network.specs.References.{badReference, badSample}
 use Rattle.table.specs.declared.Answer.{Answer}
@@ -52,37 +53,28 @@ read-refuse bytes =
     (four .0, (four .1 .0, (four .1 .1 .0, (four .1 .1 .1 .0, (five, (six, tt))))))
 
 -- ---- the counts of a good header are in 01's limits
-pub record Few (bytes : List ℕ) : Type 0 where
-  pub systems : rows bytes 1 ≤ 64
-  pub vls : rows bytes 2 ≤ 256
-  pub streams : rows bytes 3 ≤ 512
-  pub ports : rows bytes 4 ≤ 128
-  pub hops : rows bytes 5 ≤ 1024
-
-pub few : (bytes : List ℕ) → rowFault Reading 0 (headerRow bytes) ≡ none → Few bytes
-few bytes ok =
-    let p = header-plain (headerRow bytes) ok in
-    let r = header-rows bytes ok in
-    record {
-      systems = omega (arith, p .end-systems, r 1 (omega arith));
-      vls = omega (arith, p .vls, r 2 (omega arith));
-      streams = omega (arith, p .streams, r 3 (omega arith));
-      ports = omega (arith, p .ports, r 4 (omega arith));
-      hops = omega (arith, p .hops, r 5 (omega arith));
-    }
+pub few : (bytes : List ℕ) → rowFault Reading 0 (headerRow bytes) ≡ none → (s : ℕ) → suc s < 6 → rows bytes (suc s) ≤ most (suc s)
+few bytes ok s h = omega (arith, header-plain (headerRow bytes) ok .counts s h, header-rows bytes ok (suc s) h)
 
 -- so lists of these lengths hold every table
 pub record Roomy (n : Lengths) : Type 0 where
   pub delays : 4 ≤ n .delays
-  pub systems : 64 ≤ n .systems
-  pub vls : 1024 ≤ n .vls
-  pub streams : 3584 ≤ n .streams
-  pub ports : 384 ≤ n .ports
-  pub hops : 3072 ≤ n .hops
+  pub systems : most 1 * listed 1 ≤ n .systems
+  pub vls : most 2 * listed 2 ≤ n .vls
+  pub streams : most 3 * listed 3 ≤ n .streams
+  pub ports : most 4 * listed 4 ≤ n .ports
+  pub hops : most 5 * listed 5 ≤ n .hops
 
 -- the lengths of the reader's own lists
 abbrev pub readersLengths : Lengths
-readersLengths = record { delays = 4; systems = 64; vls = 1024; streams = 3584; ports = 384; hops = 3072 }
+readersLengths = record {
+  delays = 4;
+  systems = most 1 * listed 1;
+  vls = most 2 * listed 2;
+  streams = most 3 * listed 3;
+  ports = most 4 * listed 4;
+  hops = most 5 * listed 5;
+}
 
 pub readers-roomy : Roomy readersLengths
 readers-roomy = record {
@@ -98,19 +90,15 @@ module _ (bytes : List ℕ) (n : Lengths) (big : Roomy n) where
   pub enough : rowFault Reading 0 (headerRow bytes) ≡ none → answer11 bytes n ≡ none
   unfolding answer11 needs
   enough ok =
-      let f = few bytes ok in
-      let h1 : rows bytes 1 * listed 1 ≤ n .systems = rw (listed-is 1) (omega (arith, f .systems, big .systems)) in
-      let h2 : rows bytes 2 * listed 2 ≤ n .vls = rw (listed-is 2) (omega (arith, f .vls, big .vls)) in
-      let h3 : rows bytes 3 * listed 3 ≤ n .streams = rw (listed-is 3) (omega (arith, f .streams, big .streams)) in
-      let h4 : rows bytes 4 * listed 4 ≤ n .ports = rw (listed-is 4) (omega (arith, f .ports, big .ports)) in
-      let h5 : rows bytes 5 * listed 5 ≤ n .hops = rw (listed-is 5) (omega (arith, f .hops, big .hops)) in
+      let fits : (s : ℕ) → suc s < 6 → rows bytes (suc s) * listed (suc s) ≤ most (suc s) * listed (suc s) =
+      λ s h. mul-le-mul-right (listed (suc s)) (few bytes ok s h) in
       rw (
         le-leb 4 (n .delays) (big .delays),
-        le-leb (rows bytes 1 * listed 1) (n .systems) h1,
-        le-leb (rows bytes 2 * listed 2) (n .vls) h2,
-        le-leb (rows bytes 3 * listed 3) (n .streams) h3,
-        le-leb (rows bytes 4 * listed 4) (n .ports) h4,
-        le-leb (rows bytes 5 * listed 5) (n .hops) h5,
+        le-leb (rows bytes 1 * listed 1) (n .systems) (omega (arith, fits 0 (omega arith), big .systems)),
+        le-leb (rows bytes 2 * listed 2) (n .vls) (omega (arith, fits 1 (omega arith), big .vls)),
+        le-leb (rows bytes 3 * listed 3) (n .streams) (omega (arith, fits 2 (omega arith), big .streams)),
+        le-leb (rows bytes 4 * listed 4) (n .ports) (omega (arith, fits 3 (omega arith), big .ports)),
+        le-leb (rows bytes 5 * listed 5) (n .hops) (omega (arith, fits 4 (omega arith), big .hops)),
       )
 
 -- a table whose header is good, as 2 is not given

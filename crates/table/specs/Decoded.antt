@@ -7,6 +7,9 @@ use Rattle.base.specs.Pick.{pick}
 use Rattle.base.specs.Tabulate.{tabulate}
 use Rattle.frame.specs.Tick.{TickRules, inForce}
 use Rattle.frame.specs.declared.Speed.the-variants.{Mbit100, Mbit10}
+use Rattle.layout.specs.declared.Name.{Name}
+use Rattle.layout.specs.declared.Name.the-variants as name
+use Rattle.layout.specs.Layout.{placeOf}
 use Rattle.layout.specs.Rows.{listed}
 use Rattle.network.specs.declared.EndSystem.{EndSystem}
 use Rattle.network.specs.declared.Vl.{Vl}
@@ -18,9 +21,9 @@ use Rattle.network.specs.declared.Parent.the-variants.{Root, After}
 use Rattle.network.specs.Network.{Network}
 use Rattle.table.specs.Write.{Lists, listFor, recordsIn}
 
--- number k of record i of a section's list
-unfoldable pub numberAt : Lists → ℕ → ℕ → ℕ → ℕ
-numberAt ls section i k = getD (listFor ls section) (i * listed section + k) 0
+-- the number of the field of this name, of record i of a section's list
+unfoldable pub numberAt : Lists → ℕ → ℕ → Name → ℕ
+numberAt ls section i n = getD (listFor ls section) (i * listed section + placeOf section n) 0
 
 -- the ticks that a byte takes at a speed of 100 or 10 Mbit/s
 unfoldable pub ticksAt : TickRules → ℕ → ℕ
@@ -32,37 +35,37 @@ parentOf zero = Root
 parentOf (suc g) = After g
 
 unfoldable pub systemIn : TickRules → Lists → ℕ → EndSystem
-systemIn tick ls i = record { perbyte = ticksAt tick (numberAt ls 1 i 0) }
+systemIn tick ls i = record { perbyte = ticksAt tick (numberAt ls 1 i name.Speed) }
 
 unfoldable pub vlIn : TickRules → Lists → ℕ → Vl
 vlIn tick ls i = record {
-  system = numberAt ls 2 i 0;
-  gap = tick .perMs * numberAt ls 2 i 1;
-  sublinks = numberAt ls 2 i 2;
-  lmax = numberAt ls 2 i 3;
+  system = numberAt ls 2 i name.EndSystem;
+  gap = tick .perMs * numberAt ls 2 i name.Gap;
+  sublinks = numberAt ls 2 i name.SubLinks;
+  lmax = numberAt ls 2 i name.Lmax;
 }
 
 unfoldable pub streamIn : TickRules → Lists → ℕ → Stream
 streamIn tick ls i = record {
-  vl = numberAt ls 3 i 0;
-  sublink = numberAt ls 3 i 1;
+  vl = numberAt ls 3 i name.Vl;
+  sublink = numberAt ls 3 i name.SubLink;
   -- "kind 1 (1: sampling)"
-  sampling = eqb (numberAt ls 3 i 2) 1;
-  size = numberAt ls 3 i 3;
-  least = numberAt ls 3 i 4;
-  period = tick .perUnit * numberAt ls 3 i 5;
-  jitter = tick .perUnit * numberAt ls 3 i 6;
+  sampling = eqb (numberAt ls 3 i name.Kind) 1;
+  size = numberAt ls 3 i name.Size;
+  least = numberAt ls 3 i name.LeastSize;
+  period = tick .perUnit * numberAt ls 3 i name.Period;
+  jitter = tick .perUnit * numberAt ls 3 i name.Jitter;
 }
 
 unfoldable pub portIn : TickRules → Lists → ℕ → Port
 portIn tick ls i = record {
-  perbyte = ticksAt tick (numberAt ls 4 i 0);
-  least = tick .perUnit * numberAt ls 4 i 1;
-  greatest = tick .perUnit * numberAt ls 4 i 2;
+  perbyte = ticksAt tick (numberAt ls 4 i name.Speed);
+  least = tick .perUnit * numberAt ls 4 i name.SwitchLeast;
+  greatest = tick .perUnit * numberAt ls 4 i name.SwitchGreatest;
 }
 
 unfoldable pub hopIn : Lists → ℕ → Hop
-hopIn ls i = record { vl = numberAt ls 5 i 0; port = numberAt ls 5 i 1; parent = parentOf (numberAt ls 5 i 2) }
+hopIn ls i = record { vl = numberAt ls 5 i name.Vl; port = numberAt ls 5 i name.Port; parent = parentOf (numberAt ls 5 i name.Parent) }
 
 unfoldable pub networkAt : TickRules → Lists → Network
 networkAt tick ls = record {

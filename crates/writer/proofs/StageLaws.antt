@@ -3,9 +3,9 @@
 use mathlib.Core.Path.{_≡_, refl, sym, ap, _∙_, subst}
 use mathlib.Core.List.{List, [], _∷_, _++_}
 use mathlib.Core.Option.{none}
-use Prim.Native.Nat.{ℕ, zero, suc, _+_, _*_, _^_, _≤_}
+use Prim.Native.Nat.{ℕ, zero, suc, _+_, _*_, _^_, _≤_, _<_}
 use native.Mathlib.Omega.{arith}
-use lib.ListN.{length, replicate}
+use lib.ListN.{length, getD, replicate}
 use Rattle.base.specs.Tabulate.{tabulate, total}
 use Rattle.bits.specs.Rows.{putAll, putRows, Section, putTable}
 use Rattle.bits.proofs.StepLaws.{rows-one, table-step, table-done}
@@ -14,6 +14,8 @@ use Rattle.layout.specs.Layout.{layout, widths, size}
 use Rattle.layout.specs.Rows.{converted, rowFault}
 use Rattle.layout.proofs.LayoutLaws.{whole-bytes, size-is, fields-are}
 use Rattle.layout.proofs.BackLaws.{written-readable, written-read}
+use Rattle.layout.specs.Limits.{most}
+use Rattle.layout.proofs.SizeLaws.{most-are}
 use Rattle.layout.proofs.PlainLaws.{PlainHeader, header-plain}
 use Rattle.table.specs.Write.{Lists, listFor, recordsIn, headerFor, meantRow, storedRows, sectionOf, sections, parts, tableSize, packed}
 use Rattle.writer.specs.Writing.{listRow, listStored, listRows, withList, listEnd, earlyEnd, earlyPut, lateEnd, latePut}
@@ -37,7 +39,17 @@ module _ (ls : Lists) where
       let plain =
       subst PlainHeader (written-read 0 (headerFor ls) good (length-header ls four ∙ sym (fields-are 0)))
       (header-plain (converted Writing (layout 0) (headerFor ls)) (written-readable 0 (headerFor ls) good)) in
-      omega (arith, sized, plain .end-systems, plain .vls, plain .streams, plain .ports, plain .hops)
+      let few : (s : ℕ) → suc s < 6 → getD (headerFor ls) (suc s) 0 ≤ most (suc s) = plain .counts in
+      omega (
+        arith,
+        sized,
+        most-are,
+        few 0 (omega arith),
+        few 1 (omega arith),
+        few 2 (omega arith),
+        few 3 (omega arith),
+        few 4 (omega arith),
+      )
 
   -- ---- the rows of a section are those of its list
   stored-rows : (s n : ℕ) → listRows (listFor ls s) s n ≡ storedRows ls s n

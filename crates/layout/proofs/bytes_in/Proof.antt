@@ -3,13 +3,13 @@
 use mathlib.Core.Path.{refl}
 use native.Mathlib.Omega.{arith}
 use Rattle.base.specs.Tabulate.{total}
-use Rattle.layout.specs.Layout.{size, widths, layout, header, endSystem, vl, stream, port, hop}
+use Rattle.layout.specs.Layout.{size, widths, layoutIn, header, endSystem, vl, stream, port, hop}
 use Rattle.layout.proofs.LayoutLaws.{layout-past}
 use Rattle.layout.proofs.bytes_in.Statement.{statement}
 use Rattle.layout.proofs.bytes_in.Tie as tie
 
 pub bytes-in-spec : {M : Type 1} → statement M
-unfolding size widths total layout header endSystem vl stream port hop
+unfolding size widths total layoutIn header endSystem vl stream port hop
 bytes-in-spec =
     tie.close
     (tie.spec
@@ -19,4 +19,4 @@ bytes-in-spec =
     (λ c. rw (c .match .keys4) refl)
     (λ c. rw (c .match .keys5) refl)
     (λ c. rw (c .match .keys6) refl)
-    (λ c. rw (layout-past (c .before .args .section) (omega arith)) refl))
+    (λ c. rw (layout-past (c .before .args .kind) (omega arith)) refl))

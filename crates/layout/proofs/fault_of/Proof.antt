@@ -12,22 +12,22 @@ use Rattle.layout.proofs.fault_of.Statement.{statement}
 use Rattle.layout.proofs.fault_of.Tie as tie
 
 abbrev Inv-loop : tie.InvT-loop
-Inv-loop way section row n k₀ k = (k ≤ n) × GoodTo way section row k
+Inv-loop way kind row n k₀ k = (k ≤ n) × GoodTo way kind row k
 
 abbrev μ-loop : tie.MeasureT-loop
-μ-loop way section row n k₀ k = n - k
+μ-loop way kind row n k₀ k = n - k
 
 loop-holds : tie.Need-loop-holds Inv-loop μ-loop
 loop-holds c = (omega arith, (λ i h. absurd (omega arith)))
 
 mul-convert-field : tie.Need-mul-convert-field Inv-loop μ-loop
-mul-convert-field c = omega (arith, few-fields (c .before .before .before .before .args .section))
+mul-convert-field c = omega (arith, few-fields (c .before .before .before .before .args .kind))
 
 array-read-convert-field : tie.Need-array-read-convert-field Inv-loop μ-loop
-array-read-convert-field c = omega (arith, few-fields (c .before .before .before .before .args .section))
+array-read-convert-field c = omega (arith, few-fields (c .before .before .before .before .args .kind))
 
 convert-field-requires : tie.Need-convert-field-requires Inv-loop μ-loop
-convert-field-requires c κs = rw (c .shape-at .ensures) (narrow (c .before .before .before .before .args .section) (c .before .before .loop .k) (omega arith))
+convert-field-requires c κs = rw (c .shape-at .ensures) (narrow (c .before .before .before .before .args .kind) (c .before .before .loop .k) (omega arith))
 
 returns : tie.Need-returns Inv-loop μ-loop
 unfolding faultOf
@@ -35,8 +35,8 @@ returns c =
     let a = c .before .before .before .before .before .before .before .args in
     let l = c .before .before .before .before .before .loop in
     sym
-    (fault-field (a .way) (a .section) (a .t3) (l .k) (omega arith) (l .inv .1)
-    (refused-here (a .way) (a .section) (a .t3) (l .k) _ _ (c .before .before .before .shape-at .ensures) (c .before .before .convert-field .ensures)
+    (fault-field (a .way) (a .kind) (a .t3) (l .k) (omega arith) (l .inv .1)
+    (refused-here (a .way) (a .kind) (a .t3) (l .k) _ _ (c .before .before .before .shape-at .ensures) (c .before .before .convert-field .ensures)
     (sym (c .before .is-refused .ensures) ∙ c .if1 .taken)))
 
 loop-again : tie.Need-loop-again Inv-loop μ-loop
@@ -44,14 +44,14 @@ loop-again c =
     let a = c .before .before .before .before .before .before .before .args in
     let l = c .before .before .before .before .before .loop in (
       omega arith,
-      good-more (a .way) (a .section) (a .t3) (l .k) _ _ (c .before .before .before .shape-at .ensures) (c .before .before .convert-field .ensures) (l .inv .1)
+      good-more (a .way) (a .kind) (a .t3) (l .k) _ _ (c .before .before .before .shape-at .ensures) (c .before .before .convert-field .ensures) (l .inv .1)
           (sym (c .before .is-refused .ensures) ∙ c .if1 .left),
     )
 
 returns-2 : tie.Need-returns-2 Inv-loop μ-loop
 returns-2 c =
     let a = c .before .before .before .before .args in
-    c .order-fault .ensures ∙ sym (fault-order (a .way) (a .section) (a .t3) (λ i h. c .before .before .loop .inv .1 i (omega arith)))
+    c .order-fault .ensures ∙ sym (fault-order (a .way) (a .kind) (a .t3) (λ i h. c .before .before .loop .inv .1 i (omega arith)))
 
 pub fault-of-spec : {M : Type 1} → statement M
 fault-of-spec =

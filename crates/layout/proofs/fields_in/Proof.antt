@@ -2,13 +2,13 @@
 -- Assumes nothing.
 use mathlib.Core.Path.{refl}
 use native.Mathlib.Omega.{arith}
-use Rattle.layout.specs.Layout.{layout, header, endSystem, vl, stream, port, hop}
+use Rattle.layout.specs.Layout.{layoutIn, header, endSystem, vl, stream, port, hop}
 use Rattle.layout.proofs.LayoutLaws.{layout-past}
 use Rattle.layout.proofs.fields_in.Statement.{statement}
 use Rattle.layout.proofs.fields_in.Tie as tie
 
 pub fields-in-spec : {M : Type 1} → statement M
-unfolding layout header endSystem vl stream port hop
+unfolding layoutIn header endSystem vl stream port hop
 fields-in-spec =
     tie.close
     (tie.spec
@@ -18,4 +18,4 @@ fields-in-spec =
     (λ c. rw (c .match .keys4) refl)
     (λ c. rw (c .match .keys5) refl)
     (λ c. rw (c .match .keys6) refl)
-    (λ c. rw (layout-past (c .before .args .section) (omega arith)) refl))
+    (λ c. rw (layout-past (c .before .args .kind) (omega arith)) refl))

@@ -9,16 +9,16 @@ use Rattle.layout.proofs.has_row.Statement.{statement}
 use Rattle.layout.proofs.has_row.Tie as tie
 
 mul-w : tie.Need-mul-w
-mul-w c = omega (arith, size-most (c .before .args .section))
+mul-w c = omega (arith, size-most (c .before .args .kind))
 
 returns : tie.Need-returns
 returns c = sym (too-long _ _ _ (c .if1 .taken))
 
 returns-2 : tie.Need-returns-2
-returns-2 c = sym (too-short _ _ _ (omega (arith, whole-bytes (c .before .before .before .args .section))))
+returns-2 c = sym (too-short _ _ _ (omega (arith, whole-bytes (c .before .before .before .args .kind))))
 
 returns-3 : tie.Need-returns-3
-returns-3 c = let w = whole-bytes (c .before .before .before .args .section) in last-row _ _ _ _ (omega arith) (λ l. omega arith) (λ l. omega arith)
+returns-3 c = let w = whole-bytes (c .before .before .before .args .kind) in last-row _ _ _ _ (omega arith) (λ l. omega arith) (λ l. omega arith)
 
 pub has-row-spec : {M : Type 1} → statement M
 has-row-spec =

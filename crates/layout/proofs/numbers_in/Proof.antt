@@ -2,13 +2,15 @@
 -- Assumes nothing.
 use mathlib.Core.Path.{refl}
 use native.Mathlib.Omega.{arith}
-use Rattle.layout.specs.Rows.{listed}
+use Rattle.layout.specs.Layout.{layoutIn, header, endSystem, vl, stream, port, hop}
+use Rattle.layout.specs.Fields.{isPadding}
+use Rattle.layout.specs.Rows.{listedIn, listed}
 use Rattle.layout.proofs.LayoutLaws.{listed-past}
 use Rattle.layout.proofs.numbers_in.Statement.{statement}
 use Rattle.layout.proofs.numbers_in.Tie as tie
 
 pub numbers-in-spec : {M : Type 1} → statement M
-unfolding listed
+unfolding listed listedIn isPadding layoutIn header endSystem vl stream port hop
 numbers-in-spec =
     tie.close
     (tie.spec
@@ -18,4 +20,4 @@ numbers-in-spec =
     (λ c. rw (c .match .keys4) refl)
     (λ c. rw (c .match .keys5) refl)
     (λ c. rw (c .match .keys6) refl)
-    (λ c. rw (listed-past (c .before .args .section) (omega arith)) refl))
+    (λ c. rw (listed-past (c .before .args .kind) (omega arith)) refl))

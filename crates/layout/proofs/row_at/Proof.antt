@@ -19,46 +19,46 @@ use Rattle.layout.proofs.row_at.Statement.{statement}
 use Rattle.layout.proofs.row_at.Tie as tie
 
 abbrev Inv-loop : tie.InvT-loop
-Inv-loop table at section row₀ n c₀ k₀ row c k =
-    (k ≤ n) × (c .at ≡ at + total (take k (widths section))) × (row ≡ wide (take k (readAll table at (widths section))))
+Inv-loop table at kind row₀ n c₀ k₀ row c k =
+    (k ≤ n) × (c .at ≡ at + total (take k (widths kind))) × (row ≡ wide (take k (readAll table at (widths kind))))
 
 abbrev μ-loop : tie.MeasureT-loop
-μ-loop table at section row₀ n c₀ k₀ row c k = n - k
+μ-loop table at kind row₀ n c₀ k₀ row c k = n - k
 
 loop-holds : tie.Need-loop-holds Inv-loop μ-loop
 loop-holds c =
-    let ws = widths (c .before .before .before .before .before .args .section) in
+    let ws = widths (c .before .before .before .before .before .args .kind) in
     (omega arith, omega (arith, total-start ws, c .new .ensures), sym (wide-start ws))
 
 mul-row : tie.Need-mul-row Inv-loop μ-loop
-mul-row c = omega (arith, few-fields (c .before .before .before .before .before .before .before .before .before .args .section))
+mul-row c = omega (arith, few-fields (c .before .before .before .before .before .before .before .before .before .args .kind))
 
 array-write-row : tie.Need-array-write-row Inv-loop μ-loop
-array-write-row c = omega (arith, few-fields (c .before .before .before .before .before .before .before .before .before .args .section))
+array-write-row c = omega (arith, few-fields (c .before .before .before .before .before .before .before .before .before .args .kind))
 
 loop-again : tie.Need-loop-again Inv-loop μ-loop
 loop-again c =
     let a = c .before .before .before .before .before .before .before .before .before .before .args in
     let l = c .before .before .before .before .loop in
     let room = sym (c .before .before .before .before .before .before .before .before .has-row .ensures) ∙ c .before .before .before .before .before .before .before .if1 .taken in
-    let ws = widths (a .section) in
-    let n = length-widths (a .section) in
+    let ws = widths (a .kind) in
+    let n = length-widths (a .kind) in
     let m = length-read (a .table .now) (a .at) ws in
-    let got = read-more (a .table .now) (a .at) (a .section) (l .k) room (omega arith) _ (c .before .before .shape-at .ensures) _ (l .inv .1) _ (c .before .read .ensures) in
-    (omega arith, got .0, filled-more (readAll (a .table .now) (a .at) ws) _ (l .k) _ (omega (arith, few-fields (a .section))) (omega arith) (l .inv .2) (got .1))
+    let got = read-more (a .table .now) (a .at) (a .kind) (l .k) room (omega arith) _ (c .before .before .shape-at .ensures) _ (l .inv .1) _ (c .before .read .ensures) in
+    (omega arith, got .0, filled-more (readAll (a .table .now) (a .at) ws) _ (l .k) _ (omega (arith, few-fields (a .kind))) (omega arith) (l .inv .2) (got .1))
 
 returns : tie.Need-returns Inv-loop μ-loop
 returns c =
     let a = c .before .before .before .before .before .before .before .args in
     let l = c .before .loop in
     let room = sym (c .before .before .before .before .before .has-row .ensures) ∙ c .before .before .before .before .if1 .taken in
-    read-all (a .table .now) (a .at) (a .section) (l .k) room (omega arith) _ (l .inv .2)
+    read-all (a .table .now) (a .at) (a .kind) (l .k) room (omega arith) _ (l .inv .2)
 
 returns-2 : tie.Need-returns-2 Inv-loop μ-loop
 returns-2 c =
     let a = c .before .before .before .args in
-    let none = row-none (a .table .now) (a .at) (a .section) (sym (c .before .has-row .ensures) ∙ c .if1 .left) in
-    sym (ap wide none ∙ wide-zeros (length (widths (a .section))) (omega (arith, length-widths (a .section), few-fields (a .section))))
+    let none = row-none (a .table .now) (a .at) (a .kind) (sym (c .before .has-row .ensures) ∙ c .if1 .left) in
+    sym (ap wide none ∙ wide-zeros (length (widths (a .kind))) (omega (arith, length-widths (a .kind), few-fields (a .kind))))
 
 pub row-at-spec : {M : Type 1} → statement M
 row-at-spec =

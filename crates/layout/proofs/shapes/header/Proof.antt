@@ -1,6 +1,7 @@
 -- `layout::shapes::header` meets its contract: the code has the fields of the header as the layout has them.
 -- Assumes nothing.
 use mathlib.Core.Path.{refl}
+use Rattle.layout.specs.Limits.{limits}
 use Rattle.layout.specs.Layout.{header}
 use Rattle.layout.proofs.LayoutLaws.{no-field}
 use Rattle.layout.proofs.shapes.header.Statement.{statement}
@@ -22,4 +23,4 @@ header-spec =
     (λ c. rw (c .match .keys9) refl)
     (λ c. rw (c .match .keys10) refl)
     (λ c. rw (c .match .keys11) refl)
-    (λ c. no-field header (c .before .args .k) (c .match .rest)))
+    (λ c. no-field (header limits) (c .before .args .k) (c .match .rest)))

@@ -2,14 +2,14 @@
 -- Assumes nothing.
 use mathlib.Core.Path.{refl}
 use native.Mathlib.Omega.{arith}
-use Rattle.layout.specs.Layout.{layout}
+use Rattle.layout.specs.Layout.{layoutIn}
 use Rattle.layout.proofs.LayoutLaws.{layout-past}
 use borrow.Author.Needs.{needs}
 use Rattle.layout.proofs.shapes.shape_at.Statement.{statement}
 use Rattle.layout.proofs.shapes.shape_at.Tie as tie
 
 pub shape-at-spec : {M : Type 1} → statement M
-unfolding layout
+unfolding layoutIn
 shape-at-spec =
     tie.close
     (tie.spec
@@ -25,4 +25,4 @@ shape-at-spec =
     (λ c. rw (c .before .match .keys4) (c .stream .ensures))
     (λ c. rw (c .before .match .keys5) (c .port .ensures))
     (λ c. rw (c .before .match .keys6) (c .hop .ensures))
-    (λ c. rw (layout-past (c .before .args .section) (omega arith)) refl))
+    (λ c. rw (layout-past (c .before .args .kind) (omega arith)) refl))

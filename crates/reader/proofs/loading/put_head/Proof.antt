@@ -2,7 +2,7 @@
 -- Assumes nothing.
 use Prim.Native.Nat.{ℕ, _+_, _-_, _≤_}
 use mathlib.Core.List.{List, _++_}
-use mathlib.Core.Path.{_≡_, refl, sym, ap, _∙_}
+use mathlib.Core.Path.{_≡_, refl, sym, ap, ap₂, _∙_}
 use native.Mathlib.Numerals.{add-one}
 use native.Mathlib.Omega.{arith}
 use lib.ListN.{length, getD, set, take, drop, length-set}
@@ -12,10 +12,10 @@ use Rattle.reader.proofs.loading.put_head.Statement.{statement}
 use Rattle.reader.proofs.loading.put_head.Tie as tie
 
 abbrev Inv-loop : tie.InvT-loop
-Inv-loop sheet₀ head k₀ sheet k = (k ≤ 9) × (length sheet ≡ length sheet₀) × (sheet ≡ paste sheet₀ 0 head k)
+Inv-loop sheet₀ head k₀ sheet k = (k ≤ length head) × (length sheet ≡ length sheet₀) × (sheet ≡ paste sheet₀ 0 head k)
 
 abbrev μ-loop : tie.MeasureT-loop
-μ-loop sheet₀ head k₀ sheet k = 9 - k
+μ-loop sheet₀ head k₀ sheet k = length head - k
 
 loop-holds : tie.Need-loop-holds Inv-loop μ-loop
 loop-holds c = (omega arith, refl, paste-zero (c .args .sheet .now) 0 (c .args .t2))
@@ -38,9 +38,10 @@ returns : tie.Need-returns Inv-loop μ-loop
 returns c =
     let a = c .before .before .args in
     let l = c .before .loop in
-    let all : l .k ≡ 9 = omega arith in
-    let whole : take 9 (a .t2) ≡ a .t2 = take-all 9 (a .t2) (omega arith) in
-    l .inv .2 ∙ ap (paste (a .sheet .now) 0 (a .t2)) all ∙ ap (λ (h : List ℕ). h ++ drop 9 (a .sheet .now)) whole
+    let all : l .k ≡ length (a .t2) = omega arith in
+    let whole : take (length (a .t2)) (a .t2) ≡ a .t2 = take-all (length (a .t2)) (a .t2) (omega arith) in
+    let here : 0 + length (a .t2) ≡ length (a .t2) = omega arith in
+    l .inv .2 ∙ ap (paste (a .sheet .now) 0 (a .t2)) all ∙ ap₂ (λ (h : List ℕ) (n : ℕ). h ++ drop n (a .sheet .now)) whole here
 
 pub put-head-spec : {M : Type 1} → statement M
 put-head-spec =

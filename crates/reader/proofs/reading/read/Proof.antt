@@ -4,6 +4,8 @@ use Prim.Native.Nat.{ℕ}
 use mathlib.Core.Path.{_≡_, sym, ap, _∙_}
 use native.Mathlib.Omega.{arith}
 use lib.ListN.{length, replicate}
+use Rattle.layout.specs.Sizes.{place}
+use Rattle.layout.proofs.SizeLaws.{places-are}
 use Rattle.reader.proofs.FillLaws.{refused-read, none-given, sheet-ranges, refused-left, accepted-left}
 use borrow.Author.Needs.{needs}
 use Rattle.reader.proofs.reading.read.Statement.{statement}
@@ -11,12 +13,12 @@ use Rattle.reader.proofs.reading.read.Tie as tie
 
 returns : tie.Need-returns
 returns c =
-    let long : length (c .before .before .before .before .before .before .args .sheet .now) ≡ 8137 = omega arith in
+    let long : length (c .before .before .before .before .before .before .args .sheet .now) ≡ place 6 = omega (arith, places-are) in
     refused-read (c .before .before .before .before .before .before .args .table .now) _ _ (c .before .before .before .before .own-answer .ensures) (sym (c .before .before .before .is-refusal .ensures) ∙ c .before .before .if1 .taken)
     (c .clear .ensures ∙ ap (λ (n : ℕ). replicate n 0) long)
 
 load-requires : tie.Need-load-requires
-load-requires c κs = (none-given (c .before .before .before .before .before .args .table .now) _ (c .before .before .before .own-answer .ensures) (sym (c .before .before .is-refusal .ensures) ∙ c .before .if1 .left), omega arith)
+load-requires c κs = (none-given (c .before .before .before .before .before .args .table .now) _ (c .before .before .before .own-answer .ensures) (sym (c .before .before .is-refusal .ensures) ∙ c .before .if1 .left), omega (arith, places-are))
 
 references-requires : tie.Need-references-requires
 references-requires c κs = sheet-ranges (c .before .before .before .before .before .before .before .args .table .now) _ (none-given (c .before .before .before .before .before .before .before .args .table .now) _ (c .before .before .before .before .before .own-answer .ensures) (sym (c .before .before .before .before .is-refusal .ensures) ∙ c .before .before .before .if1 .left)) (c .before .load .ensures)
