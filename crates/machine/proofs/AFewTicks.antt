@@ -26,7 +26,7 @@ use Rattle.machine.specs.Fifo as Fifo
 use Rattle.machine.specs.Messages.{Release, Message, Packet, Frame, messages}
 use Rattle.machine.specs.Machine.{State, Run, released, delivered, setsOut, reaches, complete, hands, allSending, state}
 use Rattle.machine.specs.Permitted.{PermittedBelow}
-use Rattle.machine.proofs.Parts.{queue, handed, fifo, fifo-out, pool, lands}
+use Rattle.machine.proofs.Stage.Parts.{queue, handed, fifo, fifo-out, pool, lands}
 
 -- ---- a span of 2 ticks from tick 3, both end ticks counted: 3 + 4 + 5
 pub span-of-2 : span (λ t. t) 3 2 ≡ 12

@@ -18,17 +18,17 @@ use Rattle.station.proofs.Facts.{is-attained-to}
 use Rattle.machine.specs.Sound.{Sound, Has, Busy}
 use Rattle.machine.specs.Runs.{Complete, Reaches}
 use Rattle.machine.specs.OverNetworks.{No-later, No-earlier, No-longer, Reached, Nothing-cut-off, Demand-3-over-networks}
-use Rattle.machine.proofs.Cases.{both}
-use Rattle.machine.proofs.Select.{is-passing}
-use Rattle.machine.proofs.Told.{was-message, packets-pos}
-use Rattle.machine.proofs.Windows.{queueStation, Windows, latest, soonest}
-use Rattle.machine.proofs.Covers.{cost-covered, queue-covers}
-use Rattle.machine.proofs.Routes.{windows, worst-is, best-is, queue-is}
-use Rattle.machine.proofs.Arrivals.{flow-cost}
-use Rattle.machine.proofs.Auto.{runs}
-use Rattle.machine.proofs.Stopped.{continued, no-later-below, no-earlier-below, waits-below}
-use Rattle.machine.proofs.Worth.{Aim}
-use Rattle.machine.proofs.Reached.{reached}
+use Rattle.machine.proofs.Lists.Cases.{both}
+use Rattle.machine.proofs.Stage.Select.{is-passing}
+use Rattle.machine.proofs.Network.Told.{was-message, packets-pos}
+use Rattle.machine.proofs.Network.Windows.{queueStation, Windows, latest, soonest}
+use Rattle.machine.proofs.Network.Covers.{cost-covered, queue-covers}
+use Rattle.machine.proofs.Network.Routes.{windows, worst-is, best-is, queue-is}
+use Rattle.machine.proofs.Network.Arrivals.{flow-cost}
+use Rattle.machine.proofs.Network.Auto.{runs}
+use Rattle.machine.proofs.Network.Stopped.{continued, no-later-below, no-earlier-below, waits-below}
+use Rattle.machine.proofs.Wait.Worth.{Aim}
+use Rattle.machine.proofs.Wait.Reached.{reached}
 
 module _ (net : Network) (sound : Sound net) (busy : Busy net) where
   abbrev win : Windows net

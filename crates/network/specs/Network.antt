@@ -1,5 +1,6 @@
--- A network as a value: what a packed table says once it is decoded. Every time is in ticks, by the rules of the tick that the network
--- carries; rows are numbered from 0; there are no bytes here. Its records are those that the code declares (src/). Table, rows and the tick machine all speak of this one. Assumes nothing.
+-- A network as a value: what a packed table says once it is decoded. Every time is in ticks, by the rules of the tick that it carries; rows
+-- are numbered from 0; there are no bytes here. Its records are those that the code declares (src/). Table, rows and the tick machine all
+-- speak of this one. Assumes nothing.
 use Prim.Native.Nat.{ℕ}
 use mathlib.Core.Bool.{false}
 use mathlib.Core.List.{List}

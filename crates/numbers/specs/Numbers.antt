@@ -1,5 +1,6 @@
 -- 01, Numbers to hold against: "Marked * are proved of the rules themselves, as one checked list under a single statement."
--- Each is said of 01's own rule: 1 and 2 of the frame rule; of small networks 3 to 7 of the queue figure and answer 9, 8 of the port, 9 of answer 7. Assumes nothing.
+-- Each is said of 01's own rule: 1 and 2 of the frame rule; of small networks 3 to 7 of the queue figure and answer 9, 8 of the port, 9 of
+-- answer 7. Assumes nothing.
 use Prim.Native.Nat.{ℕ, _*_}
 use mathlib.Core.Bool.{false}
 use mathlib.Core.List.{List, [], _∷_, map}
@@ -23,7 +24,8 @@ use Rattle.rows.specs.Ports.{portLength, portFigure}
 use Rattle.rows.specs.Refusals.{lateSystem, endlessVl}
 
 -- ---- small networks
--- one end system and one port, both at 100 Mbit/s, every delay 0; a VL for each Lmax, of BAG 12,500 with n sub-links and one hop; these streams
+-- one end system and one port, both at 100 Mbit/s, every delay 0; a VL for each Lmax, of BAG 12,500 with n sub-links and one hop; these
+-- streams
 abbrev pub small : ℕ → List ℕ → List Stream → Network
 small n lmaxes streams = record {
   tick = inForce;

@@ -14,14 +14,14 @@ use Rattle.network.specs.Views.{streamsOn}
 use Rattle.rows.specs.Queues.{queueFlow, queueFlows}
 use Rattle.rows.specs.Rows.{worst, best}
 use Rattle.machine.specs.Sound.{Sound, Busy}
-use Rattle.machine.proofs.Cases.{both}
-use Rattle.machine.proofs.Select.{is-passing}
-use Rattle.machine.proofs.Told.{packets-mono, packets-pos}
-use Rattle.machine.proofs.Windows.{queueStation}
-use Rattle.machine.proofs.Covers.{cost-covered, queue-covers, figure-least}
-use Rattle.machine.proofs.Arrivals.{flow-cost}
+use Rattle.machine.proofs.Lists.Cases.{both}
+use Rattle.machine.proofs.Stage.Select.{is-passing}
+use Rattle.machine.proofs.Network.Told.{packets-mono, packets-pos}
+use Rattle.machine.proofs.Network.Windows.{queueStation}
+use Rattle.machine.proofs.Network.Covers.{cost-covered, queue-covers, figure-least}
+use Rattle.machine.proofs.Network.Arrivals.{flow-cost}
 use Rattle.machine.proofs.OverNetworks.{demand-3-over-networks as machines}
-use Rattle.machine.proofs.Routes.{windows, worst-is, best-is}
+use Rattle.machine.proofs.Network.Routes.{windows, worst-is, best-is}
 use Rattle.order.specs.Demand2.{NothingCutOff}
 
 module _ (net : Network) (sound : Sound net) (busy : Busy net) where

@@ -34,7 +34,7 @@ module _ (net : Network) where
   port-figure-same i j p same = ap (λ (fs : List Flow). figure fs (numberOr0 (busyLengthTo (net .tick .longest) fs))) (port-flows-same i j p same)
 
   -- the figure of a hop is its port's
-  pub hop-figure-is : (jitter : ℕ → ℕ) (h : ℕ) → hopFigure net jitter h ≡ portFigure net jitter (hopAt net h .port)
+  hop-figure-is : (jitter : ℕ → ℕ) (h : ℕ) → hopFigure net jitter h ≡ portFigure net jitter (hopAt net h .port)
   unfolding hopFigure
   hop-figure-is jitter h = refl
 

@@ -13,7 +13,7 @@ use Rattle.rows.specs.Ports.{portFlows, portLength, portFigure}
 use Rattle.rows.specs.Refusals.{sendsLate}
 
 module _ (net : Network) (rules : net .tick ≡ inForce) where
-  pub longest-here : net .tick .longest ≡ limit
+  longest-here : net .tick .longest ≡ limit
   unfolding longest limit
   longest-here = ap (λ (t : TickRules). t .longest) rules
 

@@ -1,0 +1,116 @@
+-- From the release of a message to its sub-link queue: it comes after its own send delay, so a stream's jitter is raised by the spread of the delays; and what comes is worth its packets.
+-- Assumes nothing.
+use Prim.Native.Nat.{ℕ, _*_, _≤_, _<_}
+use mathlib.Core.Bool.{Bool, true, false, cond, _&&_}
+use mathlib.Core.List.{List, [], _∷_, _++_, List·Memᴰ, List·Memᴰ·head, List·Memᴰ·tail, List·Memᴰ·not-nil, List·Memᴰ·append-cases, Memᴰ·append-left, Memᴰ·append-right, Permᴰ·symm, map}
+use mathlib.Core.Logic.{⊎-elim}
+use mathlib.Core.Path.{_≡_, refl, sym, ap, _∙_, subst}
+use native.Mathlib.Nat.{mul-assoc, le-of-eq, le-trans}
+use native.Mathlib.Omega.{arith}
+use lib.Dec.{eqb, T}
+use lib.ListN.{length, length-append}
+use Rattle.base.specs.Tabulate.{total}
+use Rattle.frame.specs.Packets.{packets}
+use Rattle.network.specs.Network.{Network, vlAt, streamAt}
+use Rattle.rows.specs.Queues.{queueFlow}
+use Rattle.station.specs.Station.{Flow, most}
+use Rattle.machine.specs.Sum.{span, count, weigh, tally}
+use Rattle.machine.specs.Lists.{chosen}
+use Rattle.machine.specs.Pool.{Due, setOut, landed}
+use Rattle.machine.specs.Messages.{Message, Packet, vlOf, packetsIn, toLane}
+use Rattle.machine.specs.Machine.{Run, allSending, released}
+use Rattle.machine.specs.Permitted.{streamFlow, releasedBy}
+use Rattle.machine.specs.Sound.{Sound}
+use Rattle.machine.proofs.Lists.Cases.{by-test}
+use Rattle.machine.proofs.Stage.Parts.{lands}
+use Rattle.machine.proofs.Lists.Sums.{span-same}
+use Rattle.machine.proofs.Stage.Flows.{Class, flows}
+use Rattle.machine.proofs.Stage.Delay.{Delay, _then_, reordered, on-the-way, landed-from, perm-mem}
+use Rattle.machine.proofs.Stage.Envelope.{any, envelope}
+use Rattle.machine.proofs.Stage.Select.{chosen-any, was-chosen, delay-chosen, delay-same, looser}
+use Rattle.machine.proofs.Network.Told.{weigh-messages}
+use Rattle.machine.proofs.Network.Trace.{ch, st, sending-is}
+use Rattle.machine.proofs.Network.Endless.{arrival, Endless, Good, good}
+
+-- lists that messages bring to a lane
+module _ (net : Network) (v i : ℕ) where
+  abbrev pub test : Message → Bool
+  test m = eqb (vlOf net m) v && eqb (streamAt net (m .stream) .sublink) i
+
+  pub record Brought (ms : List Message) (x : Packet) : Type 0 where
+    pub message : Message
+    pub there : List·Memᴰ message ms
+    pub passes : T (test message)
+    pub is : List·Memᴰ x (packetsIn net message)
+
+  pub was-brought : (ms : List Message) (x : Packet) → List·Memᴰ x (toLane net v i ms) → Brought ms x
+  was-brought [] x k = absurd (List·Memᴰ·not-nil k)
+  was-brought (m ∷ ms) x k = ⊎-elim
+      (by-test (test m) (λ (l : List Packet). List·Memᴰ x l → Brought (m ∷ ms) x)
+      (λ h j. record { message = m; there = List·Memᴰ·head refl; passes = h; is = j }) (λ h j. absurd (List·Memᴰ·not-nil j)))
+      (λ j. let b = was-brought ms x j in record { message = b .message; there = List·Memᴰ·tail (b .there); passes = b .passes; is = b .is })
+      (List·Memᴰ·append-cases (cond (test m) (packetsIn net m) []) k)
+
+  pub is-brought : (ms : List Message) (m : Message) (x : Packet) → List·Memᴰ m ms → T (test m) → List·Memᴰ x (packetsIn net m) → List·Memᴰ x (toLane net v i ms)
+  is-brought (n ∷ ms) m x (List·Memᴰ·head e) h k = Memᴰ·append-left (toLane net v i ms)
+      (by-test (test n) (λ (l : List Packet). List·Memᴰ x l) (λ g. subst (λ (a : Message). List·Memᴰ x (packetsIn net a)) e k) (λ g. absurd (g (subst (λ (a : Message). T (test a)) e h))))
+  is-brought (n ∷ ms) m x (List·Memᴰ·tail j) h k = Memᴰ·append-right (cond (test n) (packetsIn net n) []) (is-brought ms m x j h k)
+
+  -- the cost of a message to the virtual server that spends c on each packet
+  pub lane-weight : (c : ℕ) (ms : List Message) → length (toLane net v i ms) * c ≡ weigh (λ m. length (packetsIn net m) * c) (chosen test (λ m. m) ms)
+  unfolding total
+  lane-weight c [] = omega arith
+  lane-weight c (m ∷ ms) = go (lane-weight c ms) (test m)
+    where
+      go : length (toLane net v i ms) * c ≡ weigh (λ n. length (packetsIn net n) * c) (chosen test (λ n. n) ms) → (b : Bool)
+          → length (cond b (packetsIn net m) [] ++ toLane net v i ms) * c ≡ weigh (λ n. length (packetsIn net n) * c) (cond b (m ∷ []) [] ++ chosen test (λ n. n) ms)
+      go e true = omega (arith, ap (λ (n : ℕ). n * c) (length-append (packetsIn net m) (toLane net v i ms)))
+      go e false = e
+
+  abbrev pub classes : List ℕ → List (Class Message)
+  classes [] = []
+  classes (s ∷ ns) = record { flow = queueFlow net s; has = λ m. eqb (m .stream) s } ∷ classes ns
+
+  pub flows-classes : (ns : List ℕ) → flows (classes ns) ≡ map (queueFlow net) ns
+  flows-classes [] = refl
+  flows-classes (s ∷ ns) = ap (λ (l : List Flow). queueFlow net s ∷ l) (flows-classes ns)
+
+-- the cost of a stream's flow, as packets times what the virtual server spends on each
+pub flow-cost : (net : Network) (s : ℕ)
+    → queueFlow net s .cost ≡ packets (streamAt net s .size) (vlAt net (streamAt net s .vl) .lmax) * (vlAt net (streamAt net s .vl) .sublinks * vlAt net (streamAt net s .vl) .gap)
+unfolding queueFlow
+flow-cost net s = mul-assoc (packets (streamAt net s .size) (vlAt net (streamAt net s .vl) .lmax)) (vlAt net (streamAt net s .vl) .sublinks) (vlAt net (streamAt net s .vl) .gap)
+
+module _ (net : Network) (sound : Sound net) (r : Run) (per : Endless net r) where
+  pub reach-landed : (t : ℕ) → landed t (allSending net t (released r t) (ch net r t) (st net r t)) ≡ lands (λ u. ch net r u .send) (released r) t
+  unfolding lands
+  reach-landed t = ap (λ (l : List (Due Message)). landed t (l ++ setOut t (ch net r t .send) (released r t))) (sending-is net r t)
+
+  -- every message reaches its queue after its own delay
+  pub reach-delay : Delay (released r) (λ t. ch net r t .reach) (net .sendLeast) (net .sendGreatest)
+  reach-delay = looser (omega arith) (omega arith)
+      (delay-same (λ t. refl) (λ t. sym (reach-landed t))
+      (on-the-way (λ u. ch net r u .send) (released r) (net .sendLeast) (net .sendGreatest)
+      (λ t m k. (per .send-least t m k, per .send-greatest t m k)))
+      then reordered (per .reach))
+
+  pub reach-at : (t : ℕ) (m : Message) → List·Memᴰ m (ch net r t .reach) → (arrival r m ≡ t) × Good net r (m .released) m
+  reach-at t m k =
+      let f = landed-from (λ u. ch net r u .send) (released r) t m (subst (λ (l : List Message). List·Memᴰ m l) (reach-landed t) (perm-mem (Permᴰ·symm (per .reach t)) k)) in
+      let g = good net r per (f .0) m (f .1) in
+      (omega (arith, g .released, f .2, ap (λ (u : ℕ). ch net r u .send m) (g .released)), subst (λ (u : ℕ). Good net r u m) (sym (g .released)) g)
+
+  -- a stream's messages at the queues: the jitter is raised by the spread of the send delay
+  pub stream-rate : (s : ℕ) → s < length (net .streams) → (x d : ℕ) → span (λ t. count (λ m. eqb (m .stream) s) (ch net r t .reach)) x d ≤ most (queueFlow net s) d
+  unfolding most queueFlow
+  stream-rate s h x d =
+      let p : Message → Bool = λ m. eqb (m .stream) s in
+      let f : Flow = streamFlow net s in
+      let e = envelope (λ t. chosen p (λ m. m) (released r t)) (λ t. chosen p (λ m. m) (ch net r t .reach)) (net .sendLeast) (net .sendGreatest)
+      (delay-chosen p (λ m. m) reach-delay) (λ m. m .released)
+      (λ t m k. let o = was-chosen p (λ n. n) (released r t) m k in
+      ap (λ (n : Message). n .released) (sym (o .is)) ∙ good net r per t (o .from) (o .there) .released)
+      f (sound .period s h)
+      (λ y c. le-trans (le-of-eq (span-same (λ t. count any (chosen p (λ m. m) (released r t))) (λ t. count p (released r t)) (λ t. chosen-any p (λ m. m) (released r t)) y c)) (le-trans (le-of-eq (span-same (λ t. count p (released r t)) (releasedBy (r .releases) s) (λ t. weigh-messages (λ m. tally (p m)) (λ z. tally (eqb (z .stream) s)) (λ u i z. refl) t 0 (r .releases t)) y c)) (per .rule s h y c)))
+      x d in
+      le-trans (le-of-eq (span-same (λ t. count p (ch net r t .reach)) (λ t. count any (chosen p (λ m. m) (ch net r t .reach))) (λ t. sym (chosen-any p (λ m. m) (ch net r t .reach))) x d)) e

@@ -1,0 +1,112 @@
+-- The stations' figures cover what any span brings, at every sub-link and every port: where there is no flow nothing comes, and where there is one the busy length exists.
+-- Assumes nothing.
+use Prim.Native.Nat.{ℕ, _+_, _*_, _≤_, _<_}
+use mathlib.Core.Bool.{_&&_}
+use mathlib.Core.List.{List, [], _∷_, map, List·Memᴰ, List·Memᴰ·head, List·Memᴰ·tail}
+use mathlib.Core.Path.{_≡_, refl, sym, ap, subst}
+use native.Mathlib.Nat.{mul-le-mul-right}
+use native.Mathlib.Omega.{arith}
+use lib.Dec.{eqb, eqb→eq}
+use lib.ListN.{length}
+use Rattle.base.specs.Tests.{numberOr0}
+use Rattle.base.proofs.Every.{left, right}
+use Rattle.base.proofs.TestLaws.{number-is}
+use Rattle.frame.proofs.FrameLaws.{largest-line-bounds}
+use Rattle.network.specs.Network.{Network, vlAt, streamAt, hopAt}
+use Rattle.network.specs.Views.{hopsOn, streamsOn}
+use Rattle.network.specs.Link.{portLink}
+use Rattle.network.proofs.LinkLaws.{most-is}
+use Rattle.network.proofs.PortLaws.{on-port, member-on-port}
+use Rattle.rows.specs.Links.{hopMost, hopLine}
+use Rattle.rows.specs.Ports.{hopFlow, portFlows, portLength, portFigure, jitterOf, figureOf}
+use Rattle.rows.specs.Queues.{queueFlow, queueFlows, queueLength}
+use Rattle.rows.proofs.PortLaws.{figure-of-port}
+use Rattle.station.specs.Facts.{Periodic}
+use Rattle.station.specs.Station.{Flow, most, brought, busyLengthTo, figure}
+use Rattle.station.proofs.Facts.{covers-every-span-to}
+use Rattle.machine.specs.Sound.{Sound, Has, Busy}
+use Rattle.machine.proofs.Stage.Select.{was-passing}
+use Rattle.machine.proofs.Network.Windows.{queueStation}
+
+-- a flow's own part of what a span brings
+pub brought-part : (f : ℕ → Flow) (d s : ℕ) (ns : List ℕ) → List·Memᴰ s ns → most (f s) d * f s .cost ≤ brought (map f ns) d
+unfolding brought
+brought-part f d s (n ∷ ns) (List·Memᴰ·head e) = omega (arith, ap (λ (z : ℕ). most (f z) d * f z .cost) e)
+brought-part f d s (n ∷ ns) (List·Memᴰ·tail m) = omega (arith, brought-part f d s ns m)
+
+-- one arrival of a flow comes in any span, so a figure that covers is no less than its cost
+pub cost-covered : (f : ℕ → Flow) (s q : ℕ) (ns : List ℕ) → List·Memᴰ s ns → brought (map f ns) 0 ≤ q + 0 → f s .cost ≤ q
+unfolding most
+cost-covered f s q ns m h =
+    let one : 1 * f s .cost ≤ most (f s) 0 * f s .cost = mul-le-mul-right (f s .cost) (omega arith) in
+    omega (arith, brought-part f 0 s ns m)
+
+-- where there is a busy length, the figure of that length covers every span
+station-covers : (lim : ℕ) (fs : List Flow) → Periodic fs → Has (busyLengthTo lim fs) → (d : ℕ) → brought fs d ≤ figure fs (numberOr0 (busyLengthTo lim fs)) + d
+station-covers lim fs p has d =
+    subst (λ (l : ℕ). brought fs d ≤ figure fs l + d) (sym (number-is (busyLengthTo lim fs) (has .length) (has .is))) (covers-every-span-to lim fs (has .length) p (has .is) d)
+
+none-brought : (f : ℕ → Flow) (q d : ℕ) → brought (map f []) d ≤ q + d
+unfolding brought
+none-brought f q d = omega arith
+
+periodic-map : (f : ℕ → Flow) (l : List ℕ) → ((s : ℕ) → List·Memᴰ s l → 0 < f s .period) → Periodic (map f l)
+unfolding Periodic
+periodic-map f [] h = tt
+periodic-map f (s ∷ l) h = (h s (List·Memᴰ·head refl), periodic-map f l (λ n k. h n (List·Memᴰ·tail k)))
+
+module _ (net : Network) (sound : Sound net) (busy : Busy net) where
+  -- ---- queues
+  pub on-sub-link : (v k s : ℕ) → List·Memᴰ s (streamsOn net v k) → (s < length (net .streams)) × (streamAt net s .vl ≡ v) × (streamAt net s .sublink ≡ k)
+  unfolding streamsOn
+  on-sub-link v k s m =
+      let a = eqb (streamAt net s .vl) v in
+      let b = eqb (streamAt net s .sublink) k in
+      let w = was-passing (λ s. eqb (streamAt net s .vl) v && eqb (streamAt net s .sublink) k) (length (net .streams)) s m in
+      (w .0, eqb→eq (streamAt net s .vl) v (left a b (w .1)), eqb→eq (streamAt net s .sublink) k (right a b (w .1)))
+
+  queue-periodic : (v k : ℕ) → Periodic (queueFlows net v k)
+  unfolding queueFlows queueFlow
+  queue-periodic v k = periodic-map (queueFlow net) (streamsOn net v k) (λ s m. sound .period s (on-sub-link v k s m .0))
+
+  pub queue-covers : (v k d : ℕ) → brought (queueFlows net v k) d ≤ queueStation net v k + d
+  unfolding queueFlows queueStation queueLength
+  queue-covers v k d = go (streamsOn net v k) refl
+    where
+      go : (l : List ℕ) → streamsOn net v k ≡ l
+          → brought (map (queueFlow net) (streamsOn net v k)) d ≤ figure (map (queueFlow net) (streamsOn net v k)) (numberOr0 (busyLengthTo (net .tick .longest) (map (queueFlow net) (streamsOn net v k)))) + d
+      go [] e = subst (λ (l : List ℕ). brought (map (queueFlow net) l) d ≤ figure (map (queueFlow net) l) (numberOr0 (busyLengthTo (net .tick .longest) (map (queueFlow net) l))) + d) (sym e)
+          (none-brought (queueFlow net) (figure [] (numberOr0 (busyLengthTo (net .tick .longest) []))) d)
+      go (s ∷ l) e =
+          let on = on-sub-link v k s (subst (λ (z : List ℕ). List·Memᴰ s z) (sym e) (List·Memᴰ·head refl)) in
+          let has : Has (queueLength net v k) = subst (λ (z : ℕ). Has (queueLength net v z)) (on .2) (subst (λ (z : ℕ). Has (queueLength net z (streamAt net s .sublink))) (on .1) (busy .queue s (on .0))) in
+          station-covers (net .tick .longest) (queueFlows net v k) (queue-periodic v k) has d
+
+  -- ---- ports
+  port-periodic : (p : ℕ) → Periodic (portFlows net (jitterOf net) p)
+  unfolding portFlows hopFlow
+  port-periodic p = periodic-map (hopFlow net (jitterOf net)) (hopsOn net p)
+      (λ h m. sound .gap (hopAt net h .vl) (sound .references .hop-vl h (on-port net p h m .0)))
+
+  pub port-covers : (p d : ℕ) → brought (portFlows net (jitterOf net) p) d ≤ portFigure net (jitterOf net) p + d
+  unfolding portFlows portFigure portLength
+  port-covers p d = go (hopsOn net p) refl
+    where
+      go : (l : List ℕ) → hopsOn net p ≡ l → brought (map (hopFlow net (jitterOf net)) (hopsOn net p)) d ≤ figure (map (hopFlow net (jitterOf net)) (hopsOn net p)) (numberOr0 (busyLengthTo (net .tick .longest) (map (hopFlow net (jitterOf net)) (hopsOn net p)))) + d
+      go [] e = subst (λ (l : List ℕ). brought (map (hopFlow net (jitterOf net)) l) d ≤ figure (map (hopFlow net (jitterOf net)) l) (numberOr0 (busyLengthTo (net .tick .longest) (map (hopFlow net (jitterOf net)) l))) + d) (sym e)
+          (none-brought (hopFlow net (jitterOf net)) (figure [] (numberOr0 (busyLengthTo (net .tick .longest) []))) d)
+      go (h ∷ l) e =
+          let on = on-port net p h (subst (λ (z : List ℕ). List·Memᴰ h z) (sym e) (List·Memᴰ·head refl)) in
+          let has : Has (portLength net (jitterOf net) p) = subst (λ (z : ℕ). Has (portLength net (jitterOf net) z)) (on .1) (busy .port h (on .0)) in
+          station-covers (net .tick .longest) (portFlows net (jitterOf net) p) (port-periodic p) has d
+
+  -- a hop's figure is at least a least frame of it
+  pub figure-least : (h : ℕ) → h < length (net .hops) → hopLine net h ≤ figureOf net h
+  unfolding portFlows hopFlow hopMost hopLine
+  figure-least h l =
+      let p = hopAt net h .port in
+      let v = hopAt net h .vl in
+      let hv = sound .references .hop-vl h l in
+      let a = cost-covered (hopFlow net (jitterOf net)) h (portFigure net (jitterOf net) p) (hopsOn net p) (member-on-port net p h l refl) (port-covers p 0) in
+      let c = most-is (portLink net p) (vlAt net v .lmax) (largest-line-bounds (vlAt net v .lmax) (sound .lmax-least v hv) (sound .lmax-greatest v hv) .0) in
+      omega (arith, a, c, figure-of-port net h)

@@ -1,0 +1,137 @@
+-- What leaves a stage brings no more than what comes, with the spread of the stage added to the jitter.
+-- Assumes nothing.
+use Prim.Native.Nat.{ℕ, zero, suc, _+_, _-_, _/_, _≤_, _<_}
+use mathlib.Core.Bool.{Bool, true, false, _&&_}
+use mathlib.Core.List.{List, [], _∷_, List·Memᴰ, List·Memᴰ·head, List·Memᴰ·tail}
+use mathlib.Core.Logic.{_⊎_, inl, inr, ⊎-elim, dite}
+use mathlib.Core.Path.{_≡_, refl, ap, _∙_}
+use native.Mathlib.Decide.{decLe}
+use native.Mathlib.Nat.{le-refl, add-zero, add-suc, div-mul-le-self, le-div-iff-mul-le}
+use native.Mathlib.Omega.{arith}
+use lib.Dec.{leb, T, leb→le, le→leb}
+use Rattle.base.specs.Tabulate.{total}
+use Rattle.base.proofs.Every.{left, right}
+use Rattle.station.specs.Station.{Flow, most}
+use Rattle.machine.specs.Sum.{span, count, tally}
+use Rattle.machine.proofs.Lists.Cases.{both}
+use Rattle.machine.proofs.Lists.Sums.{span-suc, span-mono, span-same, span-zeros, upto}
+use Rattle.machine.proofs.Stage.Delay.{Delay}
+
+pub div-mono : (a b k : ℕ) → 0 < k → a ≤ b → a / k ≤ b / k
+div-mono a b k h m = le-div-iff-mul-le {x = a / k} {y = b} h .1 (omega (arith, div-mul-le-self a k))
+
+pub upto-split : (f : ℕ → ℕ) (a k : ℕ) → upto f (suc (a + k)) ≡ upto f a + span f a k
+unfolding upto span
+upto-split f a zero = ap (upto f) (ap suc (add-zero a))
+upto-split f a (suc k) = ap (λ (n : ℕ). upto f n + f n) (add-suc a k) ∙ (omega (arith, upto-split f a k))
+
+upto-zeros : (f : ℕ → ℕ) (a : ℕ) → ((t : ℕ) → t < a → f t ≡ zero) → upto f a ≡ zero
+unfolding upto
+upto-zeros f zero h = refl
+upto-zeros f (suc a) h = omega (arith, upto-zeros f a (λ t k. h t (omega arith)), h a (omega arith))
+
+span-tail : (f : ℕ → ℕ) (a w j : ℕ) → ((t : ℕ) → a + w < t → f t ≡ zero) → span f a (w + j) ≡ span f a w
+span-tail f a w zero h = ap (span f a) (add-zero w)
+span-tail f a w (suc j) h = ap (span f a) (add-suc w j) ∙ (omega (arith, span-suc f a (w + j), span-tail f a w j h, h (suc (a + (w + j))) (omega arith)))
+
+module _ {X : Type 0} where
+  abbrev pub any : X → Bool
+  any x = true
+
+  count-most : (p : X → Bool) (l : List X) → ((x : X) → List·Memᴰ x l → T (p x)) → count any l ≤ count p l
+  unfolding total
+  count-most p [] h = le-refl 0
+  count-most p (x ∷ l) h = omega (arith, count-most p l (λ y m. h y (List·Memᴰ·tail m)), one (p x) (h x (List·Memᴰ·head refl)))
+    where
+      one : (b : Bool) → T b → tally b ≡ 1
+      one true t = refl
+      one false t = absurd t
+
+  pub count-any : (p : X → Bool) (l : List X) → count p l ≤ count any l
+  unfolding total
+  count-any p [] = le-refl 0
+  count-any p (x ∷ l) = omega (arith, count-any p l, one (p x))
+    where
+      one : (b : Bool) → tally b ≤ 1
+      one true = le-refl 1
+      one false = omega arith
+
+  pub count-none : (p : X → Bool) (l : List X) → ((x : X) → List·Memᴰ x l → T (p x) → ⊥) → count p l ≡ zero
+  unfolding total
+  count-none p [] h = refl
+  count-none p (x ∷ l) h = omega (arith, count-none p l (λ y m. h y (List·Memᴰ·tail m)), one (p x) (h x (List·Memᴰ·head refl)))
+    where
+      one : (b : Bool) → (T b → ⊥) → tally b ≡ 0
+      one true k = absurd (k tt)
+      one false k = refl
+
+  module _ (src out : ℕ → List X) (lo hi : ℕ) (del : Delay src out lo hi)
+      (stamp : X → ℕ) (stamped : (t : ℕ) (x : X) → List·Memᴰ x (src t) → stamp x ≡ t) where
+    -- the source's ticks from which something may be out between x and x + d
+    inside : ℕ → ℕ → X → Bool
+    inside x d y = leb x (stamp y + hi) && leb (stamp y + lo) (x + d)
+
+    out-inside : (x d t : ℕ) → x ≤ t → t ≤ x + d → (y : X) → List·Memᴰ y (out t) → T (inside x d y)
+    unfolding inside
+    out-inside x d t a b y m =
+        let k = del .backward t y m in
+        let e = stamped (k .at) y (k .there) in
+        both (leb x (stamp y + hi)) (leb (stamp y + lo) (x + d)) (le→leb x (stamp y + hi) (omega (arith, k .most))) (le→leb (stamp y + lo) (x + d) (omega (arith, k .least)))
+
+    span-inside : (x d k : ℕ) → k ≤ d → span (λ t. count any (out t)) x k ≤ span (λ t. count (inside x d) (out t)) x k
+    unfolding span
+    span-inside x d zero h = count-most (inside x d) (out x) (out-inside x d x (le-refl x) (omega arith))
+    span-inside x d (suc k) h = omega (
+      arith,
+      span-inside x d k (omega arith),
+      count-most (inside x d) (out (suc (x + k))) (out-inside x d (suc (x + k)) (omega arith) (omega arith)),
+    )
+
+    src-outside : (x d t : ℕ) → (t + hi < x) ⊎ (x + d < t + lo) → count (inside x d) (src t) ≡ zero
+    unfolding inside
+    src-outside x d t h = count-none (inside x d) (src t) (λ y m i.
+        let e = stamped t y m in
+        let a = leb→le x (stamp y + hi) (left (leb x (stamp y + hi)) (leb (stamp y + lo) (x + d)) i) in
+        let b = leb→le (stamp y + lo) (x + d) (right (leb x (stamp y + hi)) (leb (stamp y + lo) (x + d)) i) in
+        ⊎-elim (λ g. omega arith) (λ g. omega arith) h)
+
+    -- all that is out between x and x + d was in the source in a span of at most d and the stage's spread
+    early : (x d : ℕ) → x + d < lo → (k : ℕ) → k ≤ d → span (λ t. count any (out t)) x k ≡ zero
+    unfolding span
+    early x d h zero k = count-none any (out x) (λ y m i. let b = del .backward x y m in omega (arith, b .least))
+    early x d h (suc j) k = omega (arith, early x d h j (omega arith), count-none any (out (suc (x + j))) (λ y m i. let b = del .backward (suc (x + j)) y m in omega (arith, b .least)))
+
+    window : (x d : ℕ) → lo ≤ hi → lo ≤ x + d → span (λ t. count any (out t)) x d ≤ span (λ t. count any (src t)) (x - hi) (x + d - lo - (x - hi))
+    window x d order h =
+        let a : ℕ = x - hi in
+        let w : ℕ = x + d - lo - a in
+        let f : ℕ → ℕ = λ t. count (inside x d) (src t) in
+        let g : ℕ → ℕ = λ t. count (inside x d) (out t) in
+        let s₁ = span-inside x d d (le-refl d) in
+        let s₂ : upto g (suc (x + d)) ≡ upto g x + span g x d = upto-split g x d in
+        let s₃ = del .weighed (λ y. tally (inside x d y)) (suc (x + d)) in
+        let s₄ : upto f (suc (a + (w + lo))) ≡ upto f a + span f a (w + lo) = upto-split f a (w + lo) in
+        let s₅ : upto f a ≡ zero = upto-zeros f a (λ t k. src-outside x d t (inl (omega arith))) in
+        let s₆ : span f a (w + lo) ≡ span f a w = span-tail f a w lo (λ t k. src-outside x d t (inr (omega arith))) in
+        let s₇ = span-mono f (λ t. count any (src t)) (λ t. count-any (inside x d) (src t)) a w in
+        let s₈ : upto f (suc (x + d)) ≡ upto f (suc (a + (w + lo))) = ap (λ (n : ℕ). upto f (suc n)) (omega arith) in
+        omega arith
+
+    pub envelope : (f : Flow) → 0 < f .period → ((x d : ℕ) → span (λ t. count any (src t)) x d ≤ most f d)
+        → (x d : ℕ) → span (λ t. count any (out t)) x d ≤ most (record { period = f .period; jitter = f .jitter + (hi - lo); cost = f .cost }) d
+    unfolding most
+    envelope f pos rate x d = dite (decLe lo hi)
+        (λ o. dite (decLe lo (x + d))
+        (λ h. omega (
+          arith,
+          window x d o h,
+          rate (x - hi) (x + d - lo - (x - hi)),
+          div-mono (x + d - lo - (x - hi) + f .jitter) (d + (f .jitter + (hi - lo))) (f .period) pos (omega arith),
+        ))
+        (λ h. omega (arith, early x d (omega arith) d (le-refl d))))
+        (λ o. omega (
+          arith,
+          span-same (λ t. count any (out t)) (λ t. zero)
+              (λ t. count-none any (out t) (λ y m i. let b = del .backward t y m in omega (arith, b .least, b .most))) x d,
+          span-zeros x d,
+        ))

@@ -1,0 +1,308 @@
+-- What the releases that fill a queue bring to it: packets that are worth the station's figure and d, none before the greatest send delay and none later than d after it; so few hand-overs come so soon, and all come in the end.
+-- Assumes nothing.
+use Prim.Native.Nat.{ℕ, zero, suc, _+_, _*_, _-_, _/_, _≤_, _<_}
+use mathlib.Core.Bool.{Bool, _&&_}
+use mathlib.Core.List.{List, [], _∷_, _++_, map, List·Memᴰ}
+use mathlib.Core.Path.{_≡_, refl, sym, ap, _∙_, subst}
+use native.Mathlib.Nat.{le-refl, le-trans, div-lt-iff-lt-mul, mul-pos}
+use native.Mathlib.Omega.{arith}
+use lib.Dec.{eqb, T, eqb→eq}
+use lib.ListN.{length}
+use Rattle.base.specs.Tabulate.{total}
+use Rattle.base.proofs.Every.{left}
+use Rattle.frame.specs.Packets.{packets, packetLines}
+use Rattle.network.specs.Network.{Network, vlAt, streamAt}
+use Rattle.network.specs.Views.{streamsOn}
+use Rattle.rows.specs.Queues.{queueFlow, queueFlows}
+use Rattle.station.specs.Station.{brought}
+use Rattle.machine.specs.Sum.{weigh}
+use Rattle.machine.specs.Pool.{Due, setOut, landed}
+use Rattle.machine.specs.Queue.{Queue}
+use Rattle.machine.specs.Messages.{Release, Message, Packet, Frame, packetsIn}
+use Rattle.machine.specs.Machine.{Run, released, start}
+use Rattle.machine.specs.Sound.{Sound}
+use Rattle.machine.proofs.Lists.Cases.{eq→eqb, both}
+use Rattle.machine.proofs.Stage.Parts.{queue, handed, lands}
+use Rattle.machine.proofs.Lists.Sums.{upto, upto-same, upto-mono, grows, weigh-part}
+use Rattle.machine.proofs.Stage.Flows.{most-pos}
+use Rattle.machine.proofs.Lists.Turns.{Within, not-within}
+use Rattle.machine.proofs.Lists.Lanes.{lane-sum, added, lane-part, nobody, none-added}
+use Rattle.machine.proofs.Stage.QueueSteps.{tally-of, hand-count, origin, queue-kept}
+use Rattle.machine.proofs.Stage.Delay.{perm-weigh, all-landed}
+use Rattle.machine.proofs.Stage.Envelope.{upto-split}
+use Rattle.machine.proofs.Stage.Select.{is-passing, was-passing, chosen-all, behind, behind-perm}
+use Rattle.machine.proofs.Network.Told.{was-message, weigh-messages, packets-pos, length-lines, length-number}
+use Rattle.machine.proofs.Network.Trace.{ch, news, sending-is}
+use Rattle.machine.proofs.Network.Endless.{arrival, Endless}
+use Rattle.machine.proofs.Network.Windows.{queueStation, Windows}
+use Rattle.machine.proofs.Network.Arrivals.{test, lane-weight, flow-cost, reach-at, reach-delay}
+use Rattle.machine.proofs.Network.Queues.{Origin, brought-facts, empty₀, named₀, left-due}
+use Rattle.machine.proofs.Network.Auto.{auto-run, auto-releases, auto-send, auto-permitted}
+use Rattle.machine.proofs.Wait.Critical.{all-brought}
+use Rattle.machine.proofs.Wait.Fill.{tests, ns, n, ρ, rel, fill, send, flight, receive, released-by, arrives, known, plan}
+
+-- what is aimed at: a VL with one sub-link, a stream of it, and a span in which its queue's station attains its figure
+pub record Aim (net : Network) : Type 0 where
+  pub vl : ℕ
+  pub row : vl < length (net .vls)
+  pub one-sub-link : vlAt net vl .sublinks ≡ 1
+  pub stream : ℕ
+  pub stream-row : stream < length (net .streams)
+  pub on-vl : streamAt net stream .vl ≡ vl
+  pub span : ℕ
+  pub attains : brought (queueFlows net vl 0) span ≡ queueStation net vl 0 + span
+
+module _ (net : Network) (sound : Sound net) (win : Windows net) (aim : Aim net) where
+  abbrev v : ℕ
+  v = aim .vl
+
+  abbrev hv : v < length (net .vls)
+  hv = aim .row
+
+  abbrev one : vlAt net v .sublinks ≡ 1
+  one = aim .one-sub-link
+
+  abbrev s₁ : ℕ
+  s₁ = aim .stream
+
+  abbrev on : s₁ < length (net .streams)
+  on = aim .stream-row
+
+  abbrev of : streamAt net s₁ .vl ≡ v
+  of = aim .on-vl
+
+  abbrev d : ℕ
+  d = aim .span
+
+  abbrev rels : ℕ → List Release
+  rels = fill net sound v s₁ d
+
+  abbrev streams : List ℕ
+  streams = ns net sound v s₁ d
+
+  abbrev times : ℕ → ℕ
+  times = n net sound v s₁ d
+
+  abbrev sends : ℕ → Message → ℕ
+  sends = send net sound v s₁ d
+
+  abbrev flights : ℕ → ℕ → Frame → ℕ
+  flights = flight net sound v s₁ d
+
+  abbrev receives : ℕ → ℕ → Frame → ℕ
+  receives = receive net sound v s₁ d
+
+  -- in each tick the messages of stream s₁ come behind all others
+  abbrev pub late : Message → Bool
+  late m = eqb (m .stream) s₁
+
+  abbrev pub r : Run
+  r = auto-run net rels sends flights receives (λ w. 0) (λ e. 0) (behind late)
+
+  pub per : Endless net r
+  per = auto-permitted net rels sends flights receives (λ w. 0) (λ e. 0) (behind late) (plan net sound v s₁ d) (behind-perm late)
+
+  pub rels-are : (t : ℕ) → r .releases t ≡ rels t
+  rels-are t = ap (λ (f : ℕ → List Release). f t) (auto-releases net rels sends flights receives (λ w. 0) (λ e. 0) (behind late))
+
+  pub send-is : (t : ℕ) (m : Message) → ch net r t .send m ≡ sends t m
+  send-is t m = ap (λ (f : Message → ℕ). f m) (auto-send net rels sends flights receives (λ w. 0) (λ e. 0) (behind late) t)
+
+  abbrev nb : ℕ
+  nb = vlAt net v .sublinks * vlAt net v .gap
+
+  nb-is : nb ≡ vlAt net v .gap
+  nb-is = ap (λ (z : ℕ). z * vlAt net v .gap) one ∙ (omega arith)
+
+  abbrev pub last : ℕ
+  last = net .sendGreatest + d
+
+  -- ---- each message reaches its queue from the greatest send delay to d after it
+  record Sent (t : ℕ) (m : Message) : Type 0 where
+    from : net .sendGreatest ≤ t + ch net r t .send m
+    by-last : t + ch net r t .send m ≤ last
+    here : T (test net v 0 m)
+
+  sent : (t : ℕ) (m : Message) → List·Memᴰ m (released r t) → Sent t m
+  sent t m i =
+      let a = was-message t 0 (r .releases t) m i in
+      let w = known net sound v s₁ d t (a .release) (subst (λ (l : List Release). List·Memᴰ (a .release) l) (rels-are t) (a .there)) in
+      let e : w .s ≡ m .stream = ap (λ (z : Release). z .stream) (w .is) ∙ a .stream in
+      let u = released-by net sound v s₁ d (w .s) (w .k) (w .stream) (w .number) in
+      record {
+        from = omega (arith, send-is t m, arrives net sound v s₁ d t m);
+        by-last = omega (arith, send-is t m, arrives net sound v s₁ d t m, u, w .now);
+        here = subst (λ (z : ℕ). T (eqb (streamAt net z .vl) v && eqb (streamAt net z .sublink) 0)) e (w .passes);
+      }
+
+  pub reach-time : (t : ℕ) (m : Message) → List·Memᴰ m (ch net r t .reach) → (net .sendGreatest ≤ t) × (t ≤ last) × T (test net v 0 m)
+  reach-time t m i =
+      let a = reach-at net sound r per t m i in
+      let b = reach-delay net sound r per .backward t m i in
+      let g : m .released ≡ b .at = was-message (b .at) 0 (r .releases (b .at)) m (b .there) .released in
+      let w = sent (b .at) m (b .there) in
+      let e : arrival r m ≡ b .at + ch net r (b .at) .send m = ap (λ (u : ℕ). u + ch net r u .send m) g in
+      (omega (arith, a .0, e, w .from), omega (arith, a .0, e, w .by-last), w .here)
+
+  -- ---- the packets that come are worth what the station's flows bring
+  abbrev cost : Message → ℕ
+  cost m = length (packetsIn net m) * nb
+
+  abbrev pub came : ℕ → ℕ
+  came t = length (news net r v t 0)
+
+  came-weight : (t : ℕ) → came t * nb ≡ weigh cost (ch net r t .reach)
+  came-weight t = lane-weight net v 0 nb (ch net r t .reach) ∙ ap (weigh cost) (chosen-all (test net v 0) (ch net r t .reach) (λ m i. reach-time t m i .2))
+
+  upto-mul : (f : ℕ → ℕ) (c t : ℕ) → upto f t * c ≡ upto (λ u. f u * c) t
+  unfolding upto
+  upto-mul f c zero = omega arith
+  upto-mul f c (suc t) = omega (arith, upto-mul f c t)
+
+  landed-weight : (t : ℕ) → weigh cost (ch net r t .reach) ≡ weigh cost (lands (λ u. ch net r u .send) (released r) t)
+  unfolding lands
+  landed-weight t =
+      sym (perm-weigh cost (per .reach t)) ∙ ap (λ (l : List (Due Message)). weigh cost (landed t (l ++ setOut t (ch net r t .send) (released r t)))) (sending-is net r t)
+
+  abbrev weight : Release → ℕ
+  weight x = length (packetLines (x .size) (vlAt net (streamAt net (x .stream) .vl) .lmax)) * nb
+
+  released-weight : (t : ℕ) → weigh cost (released r t) ≡ weigh weight (rels t)
+  released-weight t =
+      weigh-messages cost weight
+      (λ u i x. ap (λ (k : ℕ). k * nb) (length-number (record { released = u; place = i; stream = x .stream; size = x .size }) 0 (packetLines (x .size) (vlAt net (streamAt net (x .stream) .vl) .lmax))))
+      t 0 (r .releases t)
+      ∙ ap (weigh weight) (rels-are t)
+
+  total-brought : (l : List ℕ) → weigh (λ s. times s * queueFlow net s .cost) l ≡ brought (map (queueFlow net) l) d
+  unfolding total brought
+  total-brought [] = refl
+  total-brought (s ∷ l) = omega (arith, total-brought l)
+
+  same-cost : (s k : ℕ) → List·Memᴰ s streams → weight (rel net sound v s₁ d s k) ≡ queueFlow net s .cost
+  same-cost s k m =
+      let w = was-passing (tests net sound v s₁ d) (length (net .streams)) s m in
+      let e : streamAt net s .vl ≡ v = eqb→eq (streamAt net s .vl) v (left (eqb (streamAt net s .vl) v) (eqb (streamAt net s .sublink) 0) (w .1)) in
+      let hw = sound .references .stream-vl s (w .0) in
+      ap (λ (z : ℕ). z * nb) (length-lines (vlAt net (streamAt net s .vl) .lmax) (streamAt net s .size) (sound .lmax-least (streamAt net s .vl) hw) (omega (arith, sound .least-size s (w .0), sound .size s (w .0))))
+      ∙ ap (λ (z : ℕ). packets (streamAt net s .size) (vlAt net (streamAt net s .vl) .lmax) * (vlAt net z .sublinks * vlAt net z .gap)) (sym e)
+      ∙ sym (flow-cost net s)
+
+  -- P packets come
+  abbrev pub P : ℕ
+  P = upto came (suc last)
+
+  flows-are : brought (map (queueFlow net) streams) d ≡ queueStation net v 0 + d
+  unfolding queueFlows streamsOn
+  flows-are = aim .attains
+
+  worth : P * nb ≡ queueStation net v 0 + d
+  unfolding fill
+  worth =
+      upto-mul came nb (suc last)
+      ∙ upto-same (λ t. came t * nb) (λ t. weigh cost (lands (λ u. ch net r u .send) (released r) t)) (λ t. came-weight t ∙ landed-weight t) (suc last)
+      ∙ all-landed (λ u. ch net r u .send) (released r) cost (suc last) (λ u m i. omega (arith, sent u m i .by-last))
+      ∙ upto-same (λ u. weigh cost (released r u)) (λ u. weigh weight (rels u)) released-weight (suc last)
+      ∙ all-brought weight (rel net sound v s₁ d) (ρ net sound v s₁ d) times (λ s. queueFlow net s .cost) (suc last) streams
+      (λ s k m i. let w = was-passing (tests net sound v s₁ d) (length (net .streams)) s m in omega (arith, released-by net sound v s₁ d s k (w .0) i, sound .send))
+      same-cost
+      ∙ total-brought streams
+      ∙ flows-are
+
+  pub worth-gap : P * vlAt net v .gap ≡ queueStation net v 0 + d
+  worth-gap = ap (λ (z : ℕ). P * z) (sym nb-is) ∙ worth
+
+  pub pos : 0 < vlAt net v .gap
+  pos = sound .gap v hv
+
+  -- there is a stream, so P is not 0
+  pub listed : List·Memᴰ s₁ streams
+  listed = is-passing (tests net sound v s₁ d) (length (net .streams)) s₁ on
+      (both (eqb (streamAt net s₁ .vl) v) (eqb (streamAt net s₁ .sublink) 0) (eq→eqb (streamAt net s₁ .vl) v of)
+      (eq→eqb (streamAt net s₁ .sublink) 0 (omega (arith, sound .references .stream-sub-link s₁ on, ap (λ (z : ℕ). vlAt net z .sublinks) of, one))))
+
+  pub P-pos : 0 < P
+  P-pos = go P worth-gap
+    where
+      c : 0 < queueFlow net s₁ .cost
+      c = let w = streamAt net s₁ .vl in
+          let e : 1 ≡ vlAt net w .sublinks = sym one ∙ ap (λ (z : ℕ). vlAt net z .sublinks) (sym of) in
+          let hw = sound .references .stream-vl s₁ on in
+          let q : 0 < packets (streamAt net s₁ .size) (vlAt net w .lmax) * (vlAt net w .sublinks * vlAt net w .gap) = mul-pos
+          (packets-pos (vlAt net w .lmax) (streamAt net s₁ .size) (sound .lmax-least w hw) (omega (arith, sound .least-size s₁ on, sound .size s₁ on)))
+          (mul-pos (omega arith) (omega (arith, sound .gap w hw))) in
+          subst (λ (z : ℕ). 0 < z) (sym (flow-cost net s₁)) q
+
+      go : (q : ℕ) → q * vlAt net v .gap ≡ queueStation net v 0 + d → 0 < q
+      go zero e =
+          absurd (omega (arith, flows-are, total-brought streams, weigh-part (λ s. times s * queueFlow net s .cost) s₁ streams listed, mul-pos (most-pos (queueFlow net s₁) d) c))
+      go (suc q) e = omega arith
+
+  -- ---- hand-overs
+  abbrev pub s₀ : Queue Packet
+  s₀ = start net r .queue v
+
+  abbrev pub c : ℕ → ℕ
+  c t = tally-of (handed (vlAt net v .gap) s₀ (news net r v) t)
+
+  start-empty : lane-sum length (s₀ .lanes) ≡ zero
+  start-empty = nobody (s₀ .lanes) (λ x w. not-within x (s₀ .lanes) (empty₀ net sound r per v) w)
+
+  pub conserved : (t : ℕ) → upto c t + lane-sum length (queue (vlAt net v .gap) s₀ (news net r v) t .lanes) ≡ upto (λ u. added length (news net r v u) (s₀ .lanes)) t
+  conserved = queue-kept (vlAt net v .gap) s₀ (news net r v) refl start-empty
+
+  -- none before the greatest send delay
+  early : upto c (net .sendGreatest) ≡ zero
+  unfolding upto
+  early = omega (arith, conserved (net .sendGreatest), before (net .sendGreatest) (le-refl (net .sendGreatest)))
+    where
+      before : (t : ℕ) → t ≤ net .sendGreatest → upto (λ u. added length (news net r v u) (s₀ .lanes)) t ≡ zero
+      before zero h = refl
+      before (suc t) h = omega (
+        arith,
+        before t (omega arith),
+        none-added (news net r v t) (s₀ .lanes)
+            (λ i x k. let b = brought-facts net sound r per v t i x k in omega (arith, b .1, reach-time (arrival r (x .message)) (x .message) (b .0 .reached) .0)),
+      )
+
+  abbrev pub goal : ℕ
+  goal = net .sendGreatest + (P - 1) * vlAt net v .gap
+
+  -- the P-th is no earlier than P − 1 gaps after it
+  pub few : upto c goal < P
+  few = go (P - 1) refl
+    where
+      go : (q : ℕ) → P - 1 ≡ q → upto c goal < P
+      go zero e = let g : goal ≡ net .sendGreatest = omega (arith, ap (λ (z : ℕ). z * vlAt net v .gap) e) in omega (arith, ap (upto c) g, early, P-pos)
+      go (suc q) e =
+          let b = vlAt net v .gap in
+          let k : ℕ = suc q * b - 1 in
+          let i₁ : goal ≡ suc (net .sendGreatest + k) = omega (arith, ap (λ (z : ℕ). z * b) e, pos) in
+          let i₂ = upto-split c (net .sendGreatest) k in
+          let i₃ = hand-count b s₀ (news net r v) refl pos (net .sendGreatest) k in
+          let i₄ : k / b < suc q = div-lt-iff-lt-mul {k = b} {x = k} {y = suc q} pos .1 (omega (arith, pos)) in
+          omega (arith, ap (upto c) i₁, i₂, i₃, i₄, early, e)
+
+  -- all are handed over in the end
+  abbrev pub far : ℕ
+  far = suc (last + queueStation net v 0)
+
+  come : P ≤ upto (λ u. added length (news net r v u) (s₀ .lanes)) (suc far)
+  come = le-trans (grows came (suc last) (suc far) (omega arith))
+      (upto-mono came (λ u. added length (news net r v u) (s₀ .lanes))
+      (λ u. lane-part length (news net r v u) 0 (s₀ .lanes) (named₀ net sound r per v 0 (omega arith))) (suc far))
+
+  facts : (t i : ℕ) (x : Packet) → List·Memᴰ x (news net r v t i) → Origin net sound r per v x
+  facts t i x k = brought-facts net sound r per v t i x k .0
+
+  in-lane : (x : Packet) → Origin net sound r per v x → streamAt net (x .message .stream) .sublink ≡ 0
+  in-lane x o = omega (arith, sound .references .stream-sub-link (x .message .stream) (o .message .stream), ap (λ (z : ℕ). vlAt net z .sublinks) (o .vl), one)
+
+  gone : (x : Packet) → Within x (queue (vlAt net v .gap) s₀ (news net r v) (suc far) .lanes) → ⊥
+  gone x w =
+      let l = left-due net sound r per v win hv far x w in
+      let o = origin (vlAt net v .gap) s₀ (news net r v) refl (empty₀ net sound r per v) (Origin net sound r per v) facts (suc far) x w in
+      omega (arith, l, reach-time (arrival r (x .message)) (x .message) (o .reached) .1, ap (queueStation net v) (in-lane x o))
+
+  pub all-gone : P ≤ upto c (suc far)
+  all-gone = omega (arith, conserved (suc far), nobody (queue (vlAt net v .gap) s₀ (news net r v) (suc far) .lanes) gone, come)
