@@ -68,7 +68,8 @@ module _ (net : Network) where
 abbrev pub Demand-3-over-networks : Type 0
 Demand-3-over-networks = (net : Network) → Sound net → Busy net → Holds net
 
--- ---- beside it: two messages are the same only if the ticks of their releases and their places there are (proofs/Told, `told-apart`)
+-- ---- beside it: two messages are the same only if the ticks of their releases and their places there are
+-- (proofs/Network/Told, `told-apart`)
 abbrev pub Told-apart : Type 0
 Told-apart =
     (t u i k : ℕ) (xs ys : List Release) (d : Message) → i < length xs → k < length ys

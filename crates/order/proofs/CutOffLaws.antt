@@ -72,7 +72,7 @@ module _ (net : Network) (sound : Sound net) (busy : Busy net) where
     queue = machines net sound busy .nothing-cut-off;
     line = λ v h. largest-line-bounds (vlAt net v .lmax) (sound .lmax-least v h) (sound .lmax-greatest v h) .0;
     switch-delay = sound .port-delay;
-    child-jitter = figure-least net sound busy;
+    child-jitter = λ g h. omega (arith, figure-least net sound busy g h);
     least-packets = least-packets;
     row-jitter = row-jitter;
   }
