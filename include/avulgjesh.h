@@ -95,7 +95,7 @@ struct avulgjesh_station_answer avulgjesh_station(const avulgjesh_number *flows,
 
    The lists of a table, and the numbers of one record of each:
 
-     delays   4, in all: send delay least, greatest, receive delay least, greatest
+     header   5, in all: version (1), send delay least, greatest, receive delay least, greatest
      systems  1: speed in Mbit/s (100 or 10)
      vls      4: end system, gap in ms, sub-links (1 to 4), Lmax
      streams  7: VL, sub-link (from 0), kind (1: sampling), M, least M, period, jitter
@@ -103,7 +103,7 @@ struct avulgjesh_station_answer avulgjesh_station(const avulgjesh_number *flows,
      hops     3: VL, port, parent (0: none, else the parent's row + 1)
 
    At most 64 end systems, 256 VLs, 512 streams, 128 ports and 1,024 hops: a table has at most 12,110 bytes, and its
-   lists at most 4, 64, 1,024, 3,584, 384 and 3,072 numbers. */
+   lists at most 5, 64, 1,024, 3,584, 384 and 3,072 numbers. */
 
 /* The unpacker's answer: test is the place of the test that failed, where the number has several; systems to hops are
    the records that were written to each list. Refused: number 1, 2, 3, 4 or 11, and the five counts 0. */
@@ -126,7 +126,7 @@ struct avulgjesh_unpack_answer {
    leaves zero after what it wrote." */
 struct avulgjesh_unpack_answer avulgjesh_unpack(
     const avulgjesh_byte *table, avulgjesh_number table_count,
-    avulgjesh_number *delays, avulgjesh_number delays_count,
+    avulgjesh_number *header, avulgjesh_number header_count,
     avulgjesh_number *systems, avulgjesh_number systems_count,
     avulgjesh_number *vls, avulgjesh_number vls_count,
     avulgjesh_number *streams, avulgjesh_number streams_count,
@@ -143,12 +143,12 @@ struct avulgjesh_write_answer {
 };
 
 /* Writes the table of these lists. "The writer takes its counts from its lists and gives 2 (also for a list that is no
-   whole number of records), 4 (also for a value wider than its field), 11": 2, a count or a delay out of range; 4, a
+   whole number of records), 4 (also for a value wider than its field), 11": 2, a version, a count or a delay out of range; 4, a
    value out of range, with the record's own section and row; 11, the lent bytes are too few. A refusal leaves every
    lent byte 0; an acceptance leaves zero after the table. What was written unpacks to the same lists, and what was
    unpacked writes to the same bytes. */
 struct avulgjesh_write_answer avulgjesh_write(
-    const avulgjesh_number *delays, avulgjesh_number delays_count,
+    const avulgjesh_number *header, avulgjesh_number header_count,
     const avulgjesh_number *systems, avulgjesh_number systems_count,
     const avulgjesh_number *vls, avulgjesh_number vls_count,
     const avulgjesh_number *streams, avulgjesh_number streams_count,

@@ -112,34 +112,34 @@ struct list {
 };
 
 struct lists {
-    struct list delays, systems, vls, streams, ports, hops;
+    struct list head, systems, vls, streams, ports, hops;
 };
 
 #define LIST(numbers) { numbers, COUNT(numbers) }
 
 /* The whole case. */
-static const number delays[] = { 500, 1000, 500, 500 };
+static const number head[] = { 1, 500, 1000, 500, 500 };
 static const number systems[] = { 100 };
 static const number vls[] = { 0, 1, 1, 1518, 0, 2, 1, 516 };
 static const number streams[] = { 0, 0, 0, 2000, 1000, 250000, 0, 1, 0, 1, 469, 10, 500000, 1000 };
 static const number ports[] = { 100, 875, 1250 };
 static const number hops[] = { 0, 0, 0, 1, 0, 0 };
-static const struct lists whole = { LIST(delays), LIST(systems), LIST(vls), LIST(streams), LIST(ports), LIST(hops) };
+static const struct lists whole = { LIST(head), LIST(systems), LIST(vls), LIST(streams), LIST(ports), LIST(hops) };
 
 static const avulgjesh_byte header[] = { 0x01, 0x01, 0x00, 0x20, 0x02, 0x01, 0x00, 0x21, 0xF4, 0x3E, 0x81, 0xF4, 0x1F, 0x40 };
 
 /* The whole case, Lmax of VL 1 out of range. */
 static const number wide_vls[] = { 0, 1, 1, 1518, 0, 2, 1, 1519 };
-static const struct lists wide = { LIST(delays), LIST(systems), LIST(wide_vls), LIST(streams), LIST(ports), LIST(hops) };
+static const struct lists wide = { LIST(head), LIST(systems), LIST(wide_vls), LIST(streams), LIST(ports), LIST(hops) };
 
 /* One to five records of each kind, so that no two counts are the same. */
-static const number five_delays[] = { 1, 2, 3, 4 };
+static const number five_head[] = { 1, 1, 2, 3, 4 };
 static const number five_systems[] = { 10 };
 static const number five_vls[] = { 0, 4, 2, 100, 0, 8, 3, 200 };
 static const number five_streams[] = { 0, 1, 0, 53, 20, 250000, 7, 1, 2, 1, 153, 30, 500000, 8, 1, 0, 0, 400, 40, 125000000, 9 };
 static const number five_ports[] = { 100, 11, 12, 10, 13, 14, 100, 15, 16, 10, 17, 18 };
 static const number five_hops[] = { 0, 0, 0, 0, 1, 1, 1, 0, 0, 1, 2, 3, 1, 3, 4 };
-static const struct lists five = { LIST(five_delays), LIST(five_systems), LIST(five_vls), LIST(five_streams), LIST(five_ports), LIST(five_hops) };
+static const struct lists five = { LIST(five_head), LIST(five_systems), LIST(five_vls), LIST(five_streams), LIST(five_ports), LIST(five_hops) };
 
 /* One byte more than the longer table has. */
 static avulgjesh_byte table[97];
@@ -151,7 +151,7 @@ static void write_with(const char *question, const struct lists *of, number room
 
     for (i = 0; i < room; i++)
         table[i] = 255;
-    is = avulgjesh_write(of->delays.numbers, of->delays.count, of->systems.numbers, of->systems.count, of->vls.numbers,
+    is = avulgjesh_write(of->head.numbers, of->head.count, of->systems.numbers, of->systems.count, of->vls.numbers,
         of->vls.count, of->streams.numbers, of->streams.count, of->ports.numbers, of->ports.count, of->hops.numbers,
         of->hops.count, table, room);
     printf("%s:", question);
@@ -196,7 +196,7 @@ static void left(const char *name, const number *list, struct list wanted, numbe
 
 static void unpack_first(const char *question, const struct lists *of, number bytes, number refusal, number section, number row, number failed)
 {
-    static number d[5], e[2], v[9], s[22], p[13], h[16];
+    static number d[6], e[2], v[9], s[22], p[13], h[16];
     number *lists[] = { d, e, v, s, p, h };
     number lent[] = { COUNT(d), COUNT(e), COUNT(v), COUNT(s), COUNT(p), COUNT(h) };
     number all = refusal == 0;
@@ -206,7 +206,7 @@ static void unpack_first(const char *question, const struct lists *of, number by
     for (i = 0; i < COUNT(lists); i++)
         for (k = 0; k < lent[i]; k++)
             lists[i][k] = 9;
-    is = avulgjesh_unpack(table, bytes, d, of->delays.count + 1, e, of->systems.count + 1, v, of->vls.count + 1,
+    is = avulgjesh_unpack(table, bytes, d, of->head.count + 1, e, of->systems.count + 1, v, of->vls.count + 1,
         s, of->streams.count + 1, p, of->ports.count + 1, h, of->hops.count + 1);
     printf("%s:", question);
     hold(is.number, refusal);
@@ -219,7 +219,7 @@ static void unpack_first(const char *question, const struct lists *of, number by
     hold(is.ports, all * of->ports.count / 3);
     hold(is.hops, all * of->hops.count / 3);
     printf("\n");
-    left("delays", d, of->delays, all);
+    left("header", d, of->head, all);
     left("systems", e, of->systems, all);
     left("vls", v, of->vls, all);
     left("streams", s, of->streams, all);

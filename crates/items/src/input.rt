@@ -76,11 +76,11 @@ pub fn read_numbers(list: &mut [u64], n: usize) {
 
 // The lengths of the six lists.
 pub fn read_lengths() -> [usize; 6] {
-    let delays = read_length(8);
+    let header = read_length(8);
     let systems = read_length(66);
     let vls = read_length(1_030);
     let streams = read_length(LONGEST);
     let ports = read_length(390);
     let hops = read_length(3_080);
-    [delays, systems, vls, streams, ports, hops]
+    [header, systems, vls, streams, ports, hops]
 }

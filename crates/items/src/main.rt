@@ -97,7 +97,7 @@ fn put_written(answer: Answer, n: usize, out: &[u8]) {
 }
 
 fn write_from(
-    delays: &[u64],
+    header: &[u64],
     systems: &[u64],
     vls: &[u64],
     streams: &[u64],
@@ -105,14 +105,14 @@ fn write_from(
     hops: &[u64],
     out: &mut [u8],
 ) {
-    let w = writer::write(delays, systems, vls, streams, ports, hops, out);
+    let w = writer::write(header, systems, vls, streams, ports, hops, out);
     put_written(w.answer, w.length, out);
 }
 
 // The first numbers of each list are written, and the first `room` bytes are lent.
 fn write_first(
     lengths: [usize; 6],
-    delays: &[u64],
+    header: &[u64],
     systems: &[u64],
     vls: &[u64],
     streams: &[u64],
@@ -121,7 +121,7 @@ fn write_first(
     out: &mut [u8],
     room: usize,
 ) {
-    let a = of_numbers(lengths[0], delays);
+    let a = of_numbers(lengths[0], header);
     let b = of_numbers(lengths[1], systems);
     let c = of_numbers(lengths[2], vls);
     let d = of_numbers(lengths[3], streams);
@@ -129,7 +129,7 @@ fn write_first(
     let f = of_numbers(lengths[5], hops);
     let lent = of_bytes(room, out);
     write_from(
-        &delays[..a],
+        &header[..a],
         &systems[..b],
         &vls[..c],
         &streams[..d],
@@ -142,13 +142,13 @@ fn write_first(
 fn write_item() {
     let lengths = read_lengths();
     let room = read_length(MOST_BYTES);
-    let mut delays = [BEFORE; 8];
+    let mut header = [BEFORE; 8];
     let mut systems = [BEFORE; 66];
     let mut vls = [BEFORE; 1_030];
     let mut streams = [BEFORE; LONGEST];
     let mut ports = [BEFORE; 390];
     let mut hops = [BEFORE; 3_080];
-    read_numbers(&mut delays, lengths[0]);
+    read_numbers(&mut header, lengths[0]);
     read_numbers(&mut systems, lengths[1]);
     read_numbers(&mut vls, lengths[2]);
     read_numbers(&mut streams, lengths[3]);
@@ -157,7 +157,7 @@ fn write_item() {
     let mut out = [BEFORE_BYTE; MOST_BYTES];
     write_first(
         lengths,
-        &delays,
+        &header,
         &systems,
         &vls,
         &streams,

@@ -22,7 +22,7 @@ fn put_lists(
     text: &mut [u8],
     at: usize,
     u: Unpacked,
-    delays: &[u64],
+    header: &[u64],
     systems: &[u64],
     vls: &[u64],
     streams: &[u64],
@@ -32,7 +32,7 @@ fn put_lists(
     if !accepts(u.answer) {
         return at;
     }
-    let a = put_numbers(text, at, delays, 4);
+    let a = put_numbers(text, at, header, 5);
     let b = put_numbers(text, a, systems, u.systems);
     let c = put_numbers(text, b, vls, all_of(u.vls, 4));
     let d = put_numbers(text, c, streams, all_of(u.streams, 7));
@@ -42,7 +42,7 @@ fn put_lists(
 
 fn rest_of_lists(
     u: Unpacked,
-    delays: &[u64],
+    header: &[u64],
     systems: &[u64],
     vls: &[u64],
     streams: &[u64],
@@ -51,9 +51,9 @@ fn rest_of_lists(
 ) -> u64 {
     let mut used = 0;
     if accepts(u.answer) {
-        used = 4;
+        used = 5;
     }
-    let a = rest(delays, used, 0);
+    let a = rest(header, used, 0);
     let b = rest(systems, u.systems, a);
     let c = rest(vls, all_of(u.vls, 4), b);
     let d = rest(streams, all_of(u.streams, 7), c);
@@ -63,31 +63,31 @@ fn rest_of_lists(
 
 fn put_unpacked(
     u: Unpacked,
-    delays: &[u64],
+    header: &[u64],
     systems: &[u64],
     vls: &[u64],
     streams: &[u64],
     ports: &[u64],
     hops: &[u64],
 ) {
-    let others = rest_of_lists(u, delays, systems, vls, streams, ports, hops);
+    let others = rest_of_lists(u, header, systems, vls, streams, ports, hops);
     let mut text = [0u8; TEXT];
     let a = put_answer(&mut text, b'U', u.answer);
-    let b = put_lists(&mut text, a, u, delays, systems, vls, streams, ports, hops);
+    let b = put_lists(&mut text, a, u, header, systems, vls, streams, ports, hops);
     end_item(&mut text, b, others);
 }
 
 fn unpack_to(
     bytes: &[u8],
-    delays: &mut [u64],
+    header: &mut [u64],
     systems: &mut [u64],
     vls: &mut [u64],
     streams: &mut [u64],
     ports: &mut [u64],
     hops: &mut [u64],
 ) {
-    let u = unpacker::unpack(bytes, delays, systems, vls, streams, ports, hops);
-    put_unpacked(u, delays, systems, vls, streams, ports, hops);
+    let u = unpacker::unpack(bytes, header, systems, vls, streams, ports, hops);
+    put_unpacked(u, header, systems, vls, streams, ports, hops);
 }
 
 // The table is the first n bytes, and of each list the first numbers are lent.
@@ -95,7 +95,7 @@ fn unpack_first(
     bytes: &[u8],
     n: usize,
     rooms: [usize; 6],
-    delays: &mut [u64],
+    header: &mut [u64],
     systems: &mut [u64],
     vls: &mut [u64],
     streams: &mut [u64],
@@ -103,7 +103,7 @@ fn unpack_first(
     hops: &mut [u64],
 ) {
     let used = of_bytes(n, bytes);
-    let a = of_numbers(rooms[0], delays);
+    let a = of_numbers(rooms[0], header);
     let b = of_numbers(rooms[1], systems);
     let c = of_numbers(rooms[2], vls);
     let d = of_numbers(rooms[3], streams);
@@ -111,7 +111,7 @@ fn unpack_first(
     let f = of_numbers(rooms[5], hops);
     unpack_to(
         &bytes[..used],
-        &mut delays[..a],
+        &mut header[..a],
         &mut systems[..b],
         &mut vls[..c],
         &mut streams[..d],
@@ -125,7 +125,7 @@ pub fn unpack_item() {
     let n = read_length(MOST_BYTES);
     let mut bytes = [0u8; MOST_BYTES];
     read_bytes(&mut bytes, n);
-    let mut delays = [BEFORE; 8];
+    let mut header = [BEFORE; 8];
     let mut systems = [BEFORE; 66];
     let mut vls = [BEFORE; 1_030];
     let mut streams = [BEFORE; LONGEST];
@@ -135,7 +135,7 @@ pub fn unpack_item() {
         &bytes,
         n,
         rooms,
-        &mut delays,
+        &mut header,
         &mut systems,
         &mut vls,
         &mut streams,

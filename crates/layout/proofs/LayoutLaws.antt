@@ -231,6 +231,20 @@ listed-is = by-kind
     tt
     (λ k h. rw (listed-past k h) (sym (List·getD-eq-default (10 ∷ 1 ∷ 4 ∷ 7 ∷ 3 ∷ 3 ∷ []) 0 h)))
 
+-- a record's bytes are no more than twice its numbers
+pub size-numbers : (s : ℕ) → size s ≤ 2 * listed s
+size-numbers s = rw (size-is s, listed-is s) (go (decLt s 6))
+  where
+    bytes : List ℕ
+    bytes = 14 ∷ 1 ∷ 3 ∷ 13 ∷ 4 ∷ 4 ∷ []
+
+    numbers : List ℕ
+    numbers = 10 ∷ 1 ∷ 4 ∷ 7 ∷ 3 ∷ 3 ∷ []
+
+    go : Dec (s < 6) → getD bytes s 0 ≤ 2 * getD numbers s 0
+    go (yes h) = leb→le _ _ (at (λ k. leb (getD bytes k 0) (2 * getD numbers k 0)) 6 tt s h)
+    go (no n) = rw (List·getD-eq-default bytes 0 {n = s} (omega arith)) (omega arith)
+
 -- ---- the kinds of a version's sections
 -- so far each version has those of version 1
 pub kind-first : (version s : ℕ) → s < 6 → kindOf version s ≡ s

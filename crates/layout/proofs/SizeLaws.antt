@@ -9,7 +9,7 @@ use Rattle.layout.specs.Limits.{mostIn, most}
 use Rattle.layout.specs.Fields.{isPadding}
 use Rattle.layout.specs.declared.Name.the-variants as name
 use Rattle.layout.specs.Names.{numberOf, indexIn}
-use Rattle.layout.specs.Layout.{header, endSystem, vl, stream, port, hop, layoutIn, placeOf, widths, size}
+use Rattle.layout.specs.Layout.{header, endSystem, vl, stream, port, hop, layoutIn, placeOf, headerNames, widths, size}
 use Rattle.layout.specs.Rows.{listedIn, listed}
 use Rattle.layout.specs.Sizes.{capacity, place, mostBytes}
 
@@ -25,12 +25,12 @@ unfolding mostIn
 most-are = record { systems = refl; vls = refl; streams = refl; ports = refl; hops = refl }
 
 pub record Places : Type 0 where
-  pub systems : place 1 ≡ 9
-  pub vls : place 2 ≡ 73
-  pub streams : place 3 ≡ 1097
-  pub ports : place 4 ≡ 4681
-  pub hops : place 5 ≡ 5065
-  pub end : place 6 ≡ 8137
+  pub systems : place 1 ≡ 10
+  pub vls : place 2 ≡ 74
+  pub streams : place 3 ≡ 1098
+  pub ports : place 4 ≡ 4682
+  pub hops : place 5 ≡ 5066
+  pub end : place 6 ≡ 8138
 
 pub places-are : Places
 unfolding place capacity mostIn listed listedIn isPadding layoutIn header endSystem vl stream port hop
@@ -103,3 +103,15 @@ field-places = record {
   hop-port = refl;
   hop-parent = refl;
 }
+
+-- the same in the header's list
+pub record ListPlaces : Type 0 where
+  pub version : indexIn headerNames name.Version ≡ 0
+  pub send-least : indexIn headerNames name.SendLeast ≡ 1
+  pub send-greatest : indexIn headerNames name.SendGreatest ≡ 2
+  pub receive-least : indexIn headerNames name.ReceiveLeast ≡ 3
+  pub receive-greatest : indexIn headerNames name.ReceiveGreatest ≡ 4
+
+pub list-places : ListPlaces
+unfolding indexIn numberOf
+list-places = record { version = refl; send-least = refl; send-greatest = refl; receive-least = refl; receive-greatest = refl }

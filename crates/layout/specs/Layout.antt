@@ -1,5 +1,5 @@
--- 01, The packed table: the fields of each kind of record, in order, with their names, their widths in bits and what each stands for; and the
--- kind of record that each version of the table has in each section. This is the schema, as data: all else follows from it. Assumes nothing.
+-- 01, The packed table: the fields of each kind of record, in order, with their names, widths in bits and what each stands for; and the kind
+-- of record that each version has in each section. This is the schema, as data: all else follows from it. Assumes nothing.
 use Prim.Native.Nat.{ℕ, _/_}
 use mathlib.Core.List.{List, [], _∷_, map}
 use lib.ListN.{length, getD}
@@ -93,6 +93,10 @@ blank = field name.Padding 0 Padding
 -- where a record has the field of a name
 abbrev pub placeOf : ℕ → Name → ℕ
 placeOf kind n = placeIn (layout kind) n
+
+-- the numbers of the header that stand in a list of their own, beside the counts: the version, which travels with the lists, and the delays
+abbrev pub headerNames : List Name
+headerNames = name.Version ∷ name.SendLeast ∷ name.SendGreatest ∷ name.ReceiveLeast ∷ name.ReceiveGreatest ∷ []
 
 -- one field that is at most another: "each least at most its greatest", "least M 1 to M"
 pub record Order : Type 0 where

@@ -1,4 +1,4 @@
--- The fields of the table's records by their names, and where a record has the field of a name: no definition speaks of a field by its place.
+-- The fields of the table's records by their names, and where a record has the field of a name.
 -- Assumes nothing.
 use Prim.Native.Nat.{ℕ, suc}
 use mathlib.Core.Bool.{Bool}

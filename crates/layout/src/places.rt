@@ -10,6 +10,18 @@ pub const RECEIVE_LEAST: usize = 8;
 
 pub const RECEIVE_GREATEST: usize = 9;
 
+// The same in the header's list, which has no counts.
+pub const LIST_VERSION: usize = 0;
+
+pub const LIST_SEND_LEAST: usize = 1;
+
+pub const LIST_SEND_GREATEST: usize = 2;
+
+pub const LIST_RECEIVE_LEAST: usize = 3;
+
+pub const LIST_RECEIVE_GREATEST: usize = 4;
+
+// The records.
 pub const SYSTEM_SPEED: usize = 0;
 
 pub const VL_SYSTEM: usize = 0;

@@ -52,8 +52,8 @@ pub const MOST_ROWS: usize = 1_024;
 
 pub const QUEUES: usize = MOST_VLS * MOST_SUBLINKS;
 
-// The numbers of each list, where it holds the most records.
-pub const DELAYS: usize = 4;
+// The numbers of each list, where it holds the most records: the header's are the version and the four delays.
+pub const HEADER_LIST: usize = 5;
 
 pub const SYSTEMS: usize = MOST_SYSTEMS * SYSTEM;
 
@@ -65,8 +65,18 @@ pub const PORTS: usize = MOST_PORTS * PORT;
 
 pub const HOPS: usize = MOST_HOPS * HOP;
 
-// A sheet: the delays, the counts of the five sections, the five lists.
-pub const HEAD: usize = DELAYS + 5;
+// A sheet: the header's numbers, the counts of the five sections, the five lists.
+pub const SYSTEMS_COUNT: usize = HEADER_LIST;
+
+pub const VLS_COUNT: usize = HEADER_LIST + 1;
+
+pub const STREAMS_COUNT: usize = HEADER_LIST + 2;
+
+pub const PORTS_COUNT: usize = HEADER_LIST + 3;
+
+pub const HOPS_COUNT: usize = HEADER_LIST + 4;
+
+pub const HEAD: usize = HEADER_LIST + 5;
 
 pub const SYSTEMS_AT: usize = HEAD;
 

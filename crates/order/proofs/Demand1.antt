@@ -24,7 +24,7 @@ demand-1 = record {
       let no : 0 < r .answer .number → accepts bytes room ≡ false = refused (r .answer) (analysisAnswer bytes room) (a .answer-is) in
       record { answer = a .answer-is; no-rows = λ h. a .count-is ∙ rw (no h); all-zero = λ h. a .rows-are ∙ rw (no h) };
   reader = λ bytes r e. record { answer = e; analysis-alike = λ h room. reader-refuses bytes room (rw e at h) ∙ sym e };
-  unpacker = λ bytes n r delays systems vls streams ports hops u.
+  unpacker = λ bytes n r header systems vls streams ports hops u.
       let no : 0 < r .answer .number → unpacks bytes n ≡ false = refused (r .answer) (unpackAnswer bytes n) (u .answer) in
       record {
         answer = u .answer;
@@ -33,7 +33,7 @@ demand-1 = record {
         no-streams = λ h. u .streams-count ∙ rw (no h);
         no-ports = λ h. u .ports-count ∙ rw (no h);
         no-hops = λ h. u .hops-count ∙ rw (no h);
-        delays-zero = λ h. u .delays-left ∙ rw (no h);
+        header-zero = λ h. u .header-left ∙ rw (no h);
         systems-zero = λ h. u .systems-left ∙ rw (no h);
         vls-zero = λ h. u .vls-left ∙ rw (no h);
         streams-zero = λ h. u .streams-left ∙ rw (no h);

@@ -17,7 +17,8 @@ use Rattle.table.specs.declared.Answer.{Answer}
 use Rattle.table.specs.declared.Unpacked.{Unpacked}
 use Rattle.table.specs.declared.Written.{Written}
 use Rattle.table.specs.Unpack.{Lengths, Unpacks}
-use Rattle.table.specs.Write.{Lists, Writes}
+use Rattle.table.specs.Lists.{Lists}
+use Rattle.table.specs.Write.{Writes}
 use Rattle.table.specs.Read.{readAnswer}
 use Rattle.analysis.specs.declared.Analysed.{Analysed}
 use Rattle.analysis.specs.Analysis.{Analyses}
@@ -46,16 +47,16 @@ analyses-prop bytes room r result p q i = record {
   rows-are = list-set _ _ (p .rows-are) (q .rows-are) i;
 }
 
-unpacks-prop : (bytes : List ℕ) (n : Lengths) (r : Unpacked) (delays systems vls streams ports hops : List ℕ)
-    → IsProp (Unpacks bytes n r delays systems vls streams ports hops)
-unpacks-prop bytes n r delays systems vls streams ports hops p q i = record {
+unpacks-prop : (bytes : List ℕ) (n : Lengths) (r : Unpacked) (header systems vls streams ports hops : List ℕ)
+    → IsProp (Unpacks bytes n r header systems vls streams ports hops)
+unpacks-prop bytes n r header systems vls streams ports hops p q i = record {
   answer = answer-set _ _ (p .answer) (q .answer) i;
   systems-count = ℕ-set _ _ (p .systems-count) (q .systems-count) i;
   vls-count = ℕ-set _ _ (p .vls-count) (q .vls-count) i;
   streams-count = ℕ-set _ _ (p .streams-count) (q .streams-count) i;
   ports-count = ℕ-set _ _ (p .ports-count) (q .ports-count) i;
   hops-count = ℕ-set _ _ (p .hops-count) (q .hops-count) i;
-  delays-left = list-set _ _ (p .delays-left) (q .delays-left) i;
+  header-left = list-set _ _ (p .header-left) (q .header-left) i;
   systems-left = list-set _ _ (p .systems-left) (q .systems-left) i;
   vls-left = list-set _ _ (p .vls-left) (q .vls-left) i;
   streams-left = list-set _ _ (p .streams-left) (q .streams-left) i;

@@ -20,20 +20,19 @@ use Rattle.frame.specs.Packets.{fullPacket, packets}
 use Rattle.frame.specs.Tick.{perMs, perByte, perUnit, sendBase, sendLimit, inTime}
 use Rattle.bits.specs.Bits.{digit, bitAt, fieldAt}
 use Rattle.bits.specs.Rows.{readAll}
-use Rattle.layout.specs.Layout.{header, endSystem, vl, stream, port, hop, layoutIn, orders, widths, size}
+use Rattle.layout.specs.Layout.{header, endSystem, vl, stream, port, hop, layoutIn, kindsOf, kindOf, orders, widths, size}
 use Rattle.layout.specs.Fields.{isPadding, meaning, convert}
 use Rattle.layout.specs.Names.{numberOf, indexIn}
-use Rattle.layout.specs.Rows.{rowRoom, rowAt, converted, listedIn, listed, fieldTests, orderTests, rowFaultIn}
+use Rattle.layout.specs.Rows.{rowRoom, rowAt, named, converted, listedIn, listed, fieldTests, orderTests, rowFaultIn}
 use Rattle.network.specs.Network.{Network, vlAt, streamAt}
 use Rattle.network.specs.Link.{onLine, lineTicks, mostTicks}
 use Rattle.network.specs.References.{namesSystem, hasHop, streamNamesVl, namesSubLink, hopNamesVl, namesPort, ofParent, parentEarlier, parentSameVl, parentLowerPort, twinOf, noEarlierTwin, routeLonger, notTooDeep, vlTests, streamTests, hopTests, refFault, badReference, oneSample, badSample}
 use Rattle.network.specs.References as References
 use Rattle.table.specs.Answers.{accepted, firstGiven}
-use Rattle.table.specs.Sections.{headerRow, rows, from, row, recordOf, records, lent}
-use Rattle.table.specs.Unpack.{delaysOf, answer1, answer2, answer3, badRow, badSection, answer4}
-use Rattle.table.specs.Write.{listFor, recordsIn}
+use Rattle.table.specs.Sections.{headerRow, version, rows, from, row, recordOf, records, lent}
+use Rattle.table.specs.Unpack.{answer1, answer2, answer3, badRow, badSection, answer4}
+use Rattle.table.specs.Lists.{listFor, recordsIn, headerOf, unpacked}
 use Rattle.table.specs.Decoded.{numberAt, ticksAt, parentOf, systemIn, vlIn, streamIn, portIn, hopIn, networkAt}
-use Rattle.table.specs.RoundTrip.{unpacked}
 use Rattle.table.specs.Read.{networkIn, badRefSection, answer5, answer6}
 use Rattle.rows.specs.Links.{sendMost, sendSum}
 use Rattle.network.specs.Views.{vlsOf}
@@ -54,7 +53,7 @@ use Rattle.order.proofs.Demand3.{demand-3}
 
 -- ---- the bytes: they read to 01's network
 pub network-is : networkIn table ≡ whole
-unfolding networkIn networkAt systemIn vlIn streamIn portIn hopIn numberAt ticksAt parentOf recordsIn listFor tabulate perMs perByte perUnit unpacked delaysOf records recordOf row from rows headerRow rowAt rowRoom readAll fieldAt bitAt digit widths layoutIn size header endSystem vl stream port hop total converted convert meaning listed listedIn isPadding numberOr0 msOf indexIn numberOf
+unfolding networkIn networkAt systemIn vlIn streamIn portIn hopIn numberAt ticksAt parentOf recordsIn listFor tabulate perMs perByte perUnit unpacked headerOf records recordOf row from rows headerRow rowAt rowRoom readAll fieldAt bitAt digit widths layoutIn size header endSystem vl stream port hop total converted convert meaning listed listedIn isPadding numberOr0 msOf indexIn numberOf version kindOf kindsOf named
 network-is = refl
 
 none-1 : answer1 table ≡ none
@@ -62,15 +61,15 @@ unfolding answer1
 none-1 = refl
 
 none-2 : answer2 table ≡ none
-unfolding answer2 rowFaultIn fieldTests orderTests orders firstFailing leastFrom isSome convert meaning headerRow rowAt rowRoom readAll fieldAt bitAt digit widths layoutIn size header total indexIn numberOf
+unfolding answer2 rowFaultIn fieldTests orderTests orders firstFailing leastFrom isSome convert meaning headerRow rowAt rowRoom readAll fieldAt bitAt digit widths layoutIn size header total indexIn numberOf version kindOf kindsOf named
 none-2 = refl
 
 none-3 : answer3 table ≡ none
-unfolding answer3 from rows headerRow rowAt rowRoom readAll fieldAt bitAt digit widths layoutIn size header endSystem vl stream port hop total
+unfolding answer3 from rows headerRow rowAt rowRoom readAll fieldAt bitAt digit widths layoutIn size header endSystem vl stream port hop total version kindOf kindsOf named indexIn numberOf
 none-3 = refl
 
 none-4 : answer4 table ≡ none
-unfolding answer4 badSection badRow rowFaultIn fieldTests orderTests orders firstFailing leastFrom isSome convert meaning msOf row from rows headerRow rowAt rowRoom readAll fieldAt bitAt digit widths layoutIn size header endSystem vl stream port hop total indexIn numberOf
+unfolding answer4 badSection badRow rowFaultIn fieldTests orderTests orders firstFailing leastFrom isSome convert meaning msOf row from rows headerRow rowAt rowRoom readAll fieldAt bitAt digit widths layoutIn size header endSystem vl stream port hop total indexIn numberOf version kindOf kindsOf named
 none-4 = refl
 
 -- ---- the network

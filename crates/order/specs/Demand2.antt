@@ -13,6 +13,7 @@ use Rattle.frame.specs.Gap.{gapOf}
 use Rattle.frame.specs.Packets.{packets}
 use Rattle.frame.specs.Tick.{perMs}
 use Rattle.layout.specs.declared.Name.the-variants as name
+use Rattle.layout.specs.Layout.{headerNames}
 use Rattle.layout.specs.Rows.{named, listed}
 use Rattle.network.specs.Network.{Network, vlAt, streamAt, portAt, hopAt}
 use Rattle.station.specs.Station.{figure}
@@ -21,9 +22,10 @@ use Rattle.table.specs.declared.Written.{Written}
 use Rattle.table.specs.Answers.{accepted}
 use Rattle.table.specs.Sections.{row, lent}
 use Rattle.table.specs.Unpack.{Lengths, Unpacks}
-use Rattle.table.specs.Write.{Lists, Writes}
+use Rattle.table.specs.Lists.{Lists, unpacked}
+use Rattle.table.specs.Write.{Writes}
 use Rattle.table.specs.Read.{networkIn, readAnswer}
-use Rattle.table.specs.RoundTrip.{unpacked, RoomFor, Unpack-after-write, Write-after-unpack, Determined}
+use Rattle.table.specs.RoundTrip.{RoomFor, Unpack-after-write, Write-after-unpack, Determined}
 use Rattle.rows.specs.Links.{hopLine}
 use Rattle.rows.specs.Queues.{queueFlows, queueLength}
 use Rattle.rows.specs.Ports.{Figures, figureOf, jitterOf}
@@ -82,10 +84,10 @@ pub record GapTable : Type 0 where
       (bytes : List ℕ) → readAnswer bytes ≡ accepted
       → (v : ℕ) → v < length (networkIn bytes .vls) → gapOf (named 2 (row bytes 2 v) name.Gap) ≡ some (vlAt (networkIn bytes) v .gap)
 
--- what a caller has in hand of the six lent lists: the four delays, and as many records of each section as the unpacker counted
-unfoldable pub fronts : Unpacked → (delays systems vls streams ports hops : List ℕ) → Lists
-fronts u delays systems vls streams ports hops = record {
-  delays = take 4 delays;
+-- what a caller has in hand of the six lent lists: the header's numbers, and as many records of each section as the unpacker counted
+unfoldable pub fronts : Unpacked → (header systems vls streams ports hops : List ℕ) → Lists
+fronts u header systems vls streams ports hops = record {
+  header = take (length headerNames) header;
   systems = take (u .systems * listed 1) systems;
   vls = take (u .vls * listed 2) vls;
   streams = take (u .streams * listed 3) streams;
@@ -94,8 +96,8 @@ fronts u delays systems vls streams ports hops = record {
 }
 
 -- lent lists of n numbers hold these and then zeros
-pub record Hold (ls : Lists) (n : Lengths) (delays systems vls streams ports hops : List ℕ) : Type 0 where
-  pub delays-are : delays ≡ lent (n .delays) (ls .delays)
+pub record Hold (ls : Lists) (n : Lengths) (header systems vls streams ports hops : List ℕ) : Type 0 where
+  pub header-are : header ≡ lent (n .header) (ls .header)
   pub systems-are : systems ≡ lent (n .systems) (ls .systems)
   pub vls-are : vls ≡ lent (n .vls) (ls .vls)
   pub streams-are : streams ≡ lent (n .streams) (ls .streams)
@@ -103,10 +105,10 @@ pub record Hold (ls : Lists) (n : Lengths) (delays systems vls streams ports hop
   pub hops-are : hops ≡ lent (n .hops) (ls .hops)
 
 -- the unpacker accepted, and a caller has these lists in hand, with zeros behind them in lent lists of n numbers
-pub record Unpacked-to (ls : Lists) (n : Lengths) (u : Unpacked) (delays systems vls streams ports hops : List ℕ) : Type 0 where
+pub record Unpacked-to (ls : Lists) (n : Lengths) (u : Unpacked) (header systems vls streams ports hops : List ℕ) : Type 0 where
   pub answer : u .answer ≡ accepted
-  pub same-lists : fronts u delays systems vls streams ports hops ≡ ls
-  pub hold : Hold ls n delays systems vls streams ports hops
+  pub same-lists : fronts u header systems vls streams ports hops ≡ ls
+  pub hold : Hold ls n header systems vls streams ports hops
 
 -- the writer accepted, and left these bytes at the front of `room` lent ones, with zeros behind them
 pub record Written-to (bytes : List ℕ) (room : ℕ) (w : Written) (out : List ℕ) : Type 0 where
@@ -137,22 +139,22 @@ pub record Demand-2 : Type 0 where
   pub written-then-unpacked :
       (ls : Lists) (room : ℕ) (w : Written) (out : List ℕ) → Writes ls room w out → w .answer ≡ accepted
       → (n : Lengths) → RoomFor ls n
-      → (u : Unpacked) (delays systems vls streams ports hops : List ℕ)
-      → Unpacks (take (w .length) out) n u delays systems vls streams ports hops
-      → Unpacked-to ls n u delays systems vls streams ports hops
+      → (u : Unpacked) (header systems vls streams ports hops : List ℕ)
+      → Unpacks (take (w .length) out) n u header systems vls streams ports hops
+      → Unpacked-to ls n u header systems vls streams ports hops
   -- "an accepted table, unpacked and written again, gives the same bytes": likewise. What the unpacker leaves a caller in hand is accepted
   -- by the writer, into any lent bytes that are long enough for the table. (`Bytes bytes`, each number is below 256, is so of any slice of
   -- u8: its content has no other numbers.)
   pub write-after-unpack : Write-after-unpack
   pub unpacked-is :
-      (bytes : List ℕ) (n : Lengths) (u : Unpacked) (delays systems vls streams ports hops : List ℕ)
-      → Unpacks bytes n u delays systems vls streams ports hops → u .answer ≡ accepted
-      → Unpacked-to (unpacked bytes) n u delays systems vls streams ports hops
+      (bytes : List ℕ) (n : Lengths) (u : Unpacked) (header systems vls streams ports hops : List ℕ)
+      → Unpacks bytes n u header systems vls streams ports hops → u .answer ≡ accepted
+      → Unpacked-to (unpacked bytes) n u header systems vls streams ports hops
   pub unpacked-then-written :
       (bytes : List ℕ) → Bytes bytes
-      → (n : Lengths) (u : Unpacked) (delays systems vls streams ports hops : List ℕ)
-      → Unpacks bytes n u delays systems vls streams ports hops → u .answer ≡ accepted
+      → (n : Lengths) (u : Unpacked) (header systems vls streams ports hops : List ℕ)
+      → Unpacks bytes n u header systems vls streams ports hops → u .answer ≡ accepted
       → (room : ℕ) → length bytes ≤ room
-      → (w : Written) (out : List ℕ) → Writes (fronts u delays systems vls streams ports hops) room w out
+      → (w : Written) (out : List ℕ) → Writes (fronts u header systems vls streams ports hops) room w out
       → Written-to bytes room w out
   pub determined : Determined

@@ -45,7 +45,7 @@ abbrev pub Unpack-promise : Claim unpack.ended
 Unpack-promise κs a x ws =
     Unpacks (now (a .0))
     (record {
-      delays = length (now (a .1 .0));
+      header = length (now (a .1 .0));
       systems = length (now (a .1 .1 .0));
       vls = length (now (a .1 .1 .1 .0));
       streams = length (now (a .1 .1 .1 .1 .0));
@@ -59,7 +59,7 @@ abbrev pub Write-promise : Claim write.ended
 Write-promise κs a x ws =
     Writes
     (record {
-      delays = now (a .0);
+      header = now (a .0);
       systems = now (a .1 .0);
       vls = now (a .1 .1 .0);
       streams = now (a .1 .1 .1 .0);

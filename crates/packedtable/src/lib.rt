@@ -21,11 +21,11 @@ pub struct UnpackAnswer {
     pub hops: usize,
 }
 
-// The table's records, section by section: gaps in milliseconds, speeds in Mbit/s, no padding. Gives the answers 1 to 4 and 11.
+// The header's version and delays, and the table's records, section by section: gaps in milliseconds, speeds in Mbit/s, no padding. Gives the answers 1 to 4 and 11.
 #[no_mangle]
 pub extern "C" fn avulgjesh_unpack(
     table: &[u8],
-    delays: &mut [u64],
+    header: &mut [u64],
     systems: &mut [u64],
     vls: &mut [u64],
     streams: &mut [u64],
@@ -37,7 +37,7 @@ pub extern "C" fn avulgjesh_unpack(
         Unpacks
         (now (table .entry))
         (record {
-          delays = length (now (delays .entry));
+          header = length (now (header .entry));
           systems = length (now (systems .entry));
           vls = length (now (vls .entry));
           streams = length (now (streams .entry));
@@ -45,7 +45,7 @@ pub extern "C" fn avulgjesh_unpack(
           hops = length (now (hops .entry));
         })
         (unpackSaid r)
-        (now (delays .exit))
+        (now (header .exit))
         (now (systems .exit))
         (now (vls .exit))
         (now (streams .exit))
@@ -53,7 +53,7 @@ pub extern "C" fn avulgjesh_unpack(
         (now (hops .exit))
         ⌝ }
 {
-    let u = unpack(table, delays, systems, vls, streams, ports, hops);
+    let u = unpack(table, header, systems, vls, streams, ports, hops);
     let a = u.answer;
     UnpackAnswer {
         number: a.number,
@@ -81,7 +81,7 @@ pub struct WriteAnswer {
 // The table's bytes from its lists. Gives the answers 2, 4 and 11.
 #[no_mangle]
 pub extern "C" fn avulgjesh_write(
-    delays: &[u64],
+    header: &[u64],
     systems: &[u64],
     vls: &[u64],
     streams: &[u64],
@@ -93,7 +93,7 @@ pub extern "C" fn avulgjesh_write(
         ⌜
         Writes
         (record {
-          delays = now (delays .entry);
+          header = now (header .entry);
           systems = now (systems .entry);
           vls = now (vls .entry);
           streams = now (streams .entry);
@@ -105,7 +105,7 @@ pub extern "C" fn avulgjesh_write(
         (now (out .exit))
         ⌝ }
 {
-    let w = write(delays, systems, vls, streams, ports, hops, out);
+    let w = write(header, systems, vls, streams, ports, hops, out);
     let a = w.answer;
     WriteAnswer {
         number: a.number,

@@ -1,4 +1,4 @@
--- The sheet is filled from the front: behind the delays and the counts, each section's records and zeros up to its capacity. So it is the sheet of the table's lists, and the network on it is the table's.
+-- The sheet is filled from the front: behind the header's numbers and the counts, each section's records and zeros up to its capacity. So it is the sheet of the table's lists, and the network on it is the table's.
 -- Assumes nothing.
 use Prim.Native.Nat.{ℕ, zero, suc, _+_, _-_, _*_, _/_, _≤_, _<_, min}
 use mathlib.Core.Bool.{true, false, true≢false, false≢true}
@@ -16,6 +16,7 @@ use Rattle.base.proofs.Tests.{within-yes}
 use Rattle.layout.specs.Rows.{listed}
 use Rattle.layout.specs.declared.Name.the-variants as name
 use Rattle.layout.specs.Limits.{most}
+use Rattle.layout.specs.Layout.{headerNames}
 use Rattle.layout.specs.Sizes.{capacity, place}
 use Rattle.layout.proofs.LayoutLaws.{listed-is}
 use Rattle.layout.proofs.SizeLaws.{place-le, field-places}
@@ -24,14 +25,13 @@ use Rattle.network.specs.Ranges.{Ranges}
 use Rattle.table.specs.declared.Answer.{Answer}
 use Rattle.table.specs.Answers.{accepted, firstGiven}
 use Rattle.table.specs.Sections.{rows, records, lent}
-use Rattle.table.specs.Unpack.{delaysOf}
-use Rattle.table.specs.Write.{listFor, recordsIn}
-use Rattle.table.specs.RoundTrip.{unpacked}
+use Rattle.table.specs.Lists.{listFor, recordsIn, headerOf, unpacked}
 use Rattle.table.specs.Decoded.{numberAt, networkOf}
 use Rattle.table.specs.Read.{networkIn, answer5, answer6, readAnswer}
 use Rattle.table.proofs.AnswerLaws.{Sound, unpack-was}
 use Rattle.table.proofs.SectionLaws.{length-records}
-use Rattle.table.proofs.UnpackLaws.{length-delays, listed-some}
+use Rattle.table.proofs.HeaderLaws.{five}
+use Rattle.table.proofs.UnpackLaws.{length-header, listed-some}
 use Rattle.table.proofs.ReadingLaws.{few, readersLengths, own-refused, own-accepted}
 use Rattle.table.proofs.HeldLaws.{vl-row}
 use Rattle.table.proofs.ReadLaws.{count-read, number-read, read-references, read-sound, sound-ranges, read-ranges}
@@ -51,23 +51,17 @@ put-next s t p front a b known low high long e =
       omega (arith, ap length is, length-append (front ++ p) (drop b s), length-drop b s),
     )
 
--- ---- the delays and the counts
-four-front : (l r : List ℕ) → length l ≡ 4 → getD l 0 0 ∷ getD l 1 0 ∷ getD l 2 0 ∷ getD l 3 0 ∷ r ≡ l ++ r
-four-front [] r e = absurd (omega arith)
-four-front (a ∷ []) r e = absurd (omega arith)
-four-front (a ∷ b ∷ []) r e = absurd (omega arith)
-four-front (a ∷ b ∷ c ∷ []) r e = absurd (omega arith)
-four-front (a ∷ b ∷ c ∷ d ∷ []) r e = refl
-four-front (a ∷ b ∷ c ∷ d ∷ f ∷ l) r e = absurd (omega arith)
-
-pub head-is : (bytes d n : List ℕ) → d ≡ delaysOf bytes → n ≡ tabulate (rows bytes) 6
-    → getD d 0 0 ∷ getD d 1 0 ∷ getD d 2 0 ∷ getD d 3 0 ∷ getD n 1 0 ∷ getD n 2 0 ∷ getD n 3 0 ∷ getD n 4 0 ∷ getD n 5 0 ∷ [] ≡ block (unpacked bytes) 0
+-- ---- the header's numbers and the counts
+pub head-is : (bytes d n : List ℕ) → d ≡ headerOf bytes → n ≡ tabulate (rows bytes) 6
+    → getD d 0 0 ∷ getD d 1 0 ∷ getD d 2 0 ∷ getD d 3 0 ∷ getD d 4 0 ∷ getD n 1 0 ∷ getD n 2 0 ∷ getD n 3 0 ∷ getD n 4 0 ∷ getD n 5 0 ∷ [] ≡ block (unpacked bytes) 0
 unfolding block unpacked
 head-is bytes d n e f =
     let count : (s : ℕ) → suc s < 6 → getD n (suc s) 0 ≡ recordsIn (unpacked bytes) (suc s)
     = λ s h. ap (λ (l : List ℕ). getD l (suc s) 0) f ∙ tabulate-at (rows bytes) 6 (suc s) 0 h ∙ sym (count-read bytes s h) in
+    let counts =
+    recordsIn (unpacked bytes) 1 ∷ recordsIn (unpacked bytes) 2 ∷ recordsIn (unpacked bytes) 3 ∷ recordsIn (unpacked bytes) 4 ∷ recordsIn (unpacked bytes) 5 ∷ [] in
     rw (count 0 (omega arith), count 1 (omega arith), count 2 (omega arith), count 3 (omega arith), count 4 (omega arith), e)
-    (four-front (delaysOf bytes) _ (length-delays bytes))
+    (ap (λ (l : List ℕ). l ++ counts) (five (headerOf bytes) (length-header bytes)))
 
 -- ---- a table that 1 to 4 are not given to
 pub own-sound : (bytes : List ℕ) → tableAnswer bytes .number ≡ 0 → Sound bytes
@@ -99,14 +93,14 @@ module _ (bytes : List ℕ) (sound : Sound bytes) where
       ∙ ap (λ (m : ℕ). lent (capacity (suc s)) (records bytes (suc s) m)) (all-fit s h)
       ∙ ap (lent (capacity (suc s))) (sym (list-is s h))
 
-  delays-whole : length (unpacked bytes .delays) ≡ 4
+  header-whole : length (unpacked bytes .header) ≡ length headerNames
   unfolding unpacked
-  delays-whole = length-delays bytes
+  header-whole = length-header bytes
 
   -- ---- so the network on the sheet is the table's
   pub held : Held (unpacked bytes)
   held = record {
-    delays = delays-whole;
+    header = header-whole;
     whole = λ s h. ap length (list-is s h) ∙ length-records bytes (suc s) (rows bytes (suc s)) ∙ ap (λ (n : ℕ). n * listed (suc s)) (sym (count-read bytes s h));
     few = λ s h. rw (count-read bytes s h) (few bytes (sound .header) s h);
     gaps = λ i h.
@@ -124,7 +118,7 @@ pub head-put : (s t head bytes : List ℕ) → length s ≡ place 6 → head ≡
 unfolding block unpacked blocks place capacity
 head-put s t head bytes long is e =
     let counts = recordsIn (unpacked bytes) 1 ∷ recordsIn (unpacked bytes) 2 ∷ recordsIn (unpacked bytes) 3 ∷ recordsIn (unpacked bytes) 4 ∷ recordsIn (unpacked bytes) 5 ∷ [] in
-    let whole : length head ≡ place 1 = omega (arith, ap length is, length-append (delaysOf bytes) counts, length-delays bytes) in
+    let whole : length head ≡ place 1 = omega (arith, ap length is, length-append (headerOf bytes) counts, length-header bytes) in
     let room = place-le 1 6 (omega arith) in (
       ap₂ (λ (n : ℕ) (l : List ℕ). take n l) (sym whole) e ∙ take-append-seam head (drop (length head) s) ∙ is,
       omega (arith, ap length e, length-append head (drop (length head) s), length-drop (length head) s),

@@ -6,7 +6,7 @@ use lib.Dec.{eqb}
 use lib.ListN.{replicate}
 use Rattle.base.specs.Pick.{pick}
 use Rattle.layout.specs.Sizes.{place}
-use Rattle.table.specs.RoundTrip.{unpacked}
+use Rattle.table.specs.Lists.{unpacked}
 use Rattle.table.specs.Read.{readAnswer}
 use Rattle.sheet.specs.Sheet.{sheetOf}
 

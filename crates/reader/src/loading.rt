@@ -1,4 +1,4 @@
-// Fills a sheet from a table that 1 to 4 are not given to: the delays and the counts, and each section's records at their place.
+// Fills a sheet from a table that 1 to 4 are not given to: the header's numbers and the counts, and each section's records at their place.
 // A part of the sheet is lent to the unpacker at a time, so that no list stands anywhere else.
 use layout::sizes;
 ghost use mathlib.Core.List.{_++_};
@@ -7,7 +7,7 @@ ghost use Prim.Native.Nat.{_≤_, _-_};
 ghost use lib.ListN.{length, take, drop};
 ghost use Rattle.layout.specs.Sizes.{place};
 ghost use Rattle.table.specs.Sections.{records, lent};
-ghost use Rattle.table.specs.RoundTrip.{unpacked};
+ghost use Rattle.table.specs.Lists.{unpacked};
 ghost use Rattle.unpacker.specs.Unpacking.{tableAnswer, fitting};
 ghost use Rattle.sheet.specs.Sheet.{block, sheetOf};
 
@@ -23,17 +23,18 @@ pub fn load(table: &[u8], sheet: &mut [u64])
     put_section(table, 5, sheet, sizes::HOPS_AT, sizes::SHEET);
 }
 
-// The delays and the counts.
+// The header's numbers and the counts.
 fn head_of(table: &[u8]) -> [u64; sizes::HEAD]
     ensures { λ r. ⌜ r ≡ block (unpacked (now (table .entry))) 0 ⌝ }
 {
-    let d = unpacker::delays_of(table);
+    let h = unpacker::header_list(table);
     let n = unpacker::counts_of(table);
     [
-        d[0],
-        d[1],
-        d[2],
-        d[3],
+        h[0],
+        h[1],
+        h[2],
+        h[3],
+        h[4],
         n[1] as u64,
         n[2] as u64,
         n[3] as u64,

@@ -14,12 +14,13 @@ use Rattle.frame.specs.Tick.{perMs, perUnit, inForce}
 use Rattle.layout.specs.declared.Name.{Name}
 use Rattle.layout.specs.declared.Name.the-variants as name
 use Rattle.layout.specs.Limits.{most}
-use Rattle.layout.specs.Layout.{placeOf}
+use Rattle.layout.specs.Names.{indexIn}
+use Rattle.layout.specs.Layout.{placeOf, headerNames}
 use Rattle.layout.specs.Rows.{listed}
-use Rattle.layout.specs.Sizes.{capacity, place}
-use Rattle.layout.proofs.SizeLaws.{field-places}
+use Rattle.layout.specs.Sizes.{capacity, countPlace, place}
+use Rattle.layout.proofs.SizeLaws.{field-places, list-places}
 use Rattle.layout.proofs.LayoutLaws.{listed-is}
-use Rattle.table.specs.Write.{Lists, listFor, recordsIn}
+use Rattle.table.specs.Lists.{Lists, listFor, recordsIn}
 use Rattle.table.specs.Decoded.{numberAt, ticksAt, parentOf, systemIn, vlIn, streamIn, portIn, hopIn, networkAt, networkOf}
 use Rattle.table.proofs.LentLaws.{length-lent, lent-at}
 use Rattle.sheet.specs.Sheet.{countOn, numberOn, systemOn, vlOn, streamOn, portOn, hopOn, networkOn, block, blocks, sheetOf}
@@ -35,7 +36,7 @@ behind (x ∷ l) r j = let e : suc (length l) + j ≡ suc (length l + j) = omega
 
 -- lists of whole records that a sheet has room for
 pub record Held (ls : Lists) : Type 0 where
-  pub delays : length (ls .delays) ≡ 4
+  pub header : length (ls .header) ≡ length headerNames
   pub whole : (s : ℕ) → suc s < 6 → length (listFor ls (suc s)) ≡ recordsIn ls (suc s) * listed (suc s)
   pub few : (s : ℕ) → suc s < 6 → recordsIn ls (suc s) ≤ most (suc s)
   pub gaps : (i : ℕ) → i < recordsIn ls 2 → numberAt ls 2 i name.Gap < 256
@@ -48,7 +49,7 @@ module _ (ls : Lists) (held : Held ls) where
   pub length-block : (s : ℕ) → s < 6 → length (block ls s) ≡ capacity s
   unfolding block capacity
   length-block zero h =
-      omega (arith, held .delays, length-append (ls .delays) (recordsIn ls 1 ∷ recordsIn ls 2 ∷ recordsIn ls 3 ∷ recordsIn ls 4 ∷ recordsIn ls 5 ∷ []))
+      omega (arith, held .header, length-append (ls .header) (recordsIn ls 1 ∷ recordsIn ls 2 ∷ recordsIn ls 3 ∷ recordsIn ls 4 ∷ recordsIn ls 5 ∷ []))
   length-block (suc s) h = length-lent (capacity (suc s)) (listFor ls (suc s)) (list-fits s h)
 
   pub length-blocks : (s : ℕ) → s ≤ 6 → length (blocks ls s) ≡ place s
@@ -76,23 +77,23 @@ module _ (ls : Lists) (held : Held ls) where
         rw (e, ← length-blocks t (omega arith)) (behind (blocks ls t) (block ls t) j)
   ]
 
-  -- ---- the counts, the delays and the numbers
-  head-at : (j : ℕ) → j < 9 → getD (sheetOf ls) j 0 ≡ getD (block ls 0) j 0
+  -- ---- the counts, the header's numbers and those of the records
+  head-at : (j : ℕ) → j < length headerNames + 5 → getD (sheetOf ls) j 0 ≡ getD (block ls 0) j 0
   unfolding sheetOf place capacity
   head-at j h = let e : 0 + j ≡ j = omega arith in ap (λ (i : ℕ). getD (blocks ls 6) i 0) (sym e) ∙ block-at 6 0 j (omega arith) (omega arith) (omega arith)
 
-  delay-at : (k : ℕ) → k < 4 → getD (sheetOf ls) k 0 ≡ getD (ls .delays) k 0
+  header-at : (k : ℕ) → k < length headerNames → getD (sheetOf ls) k 0 ≡ getD (ls .header) k 0
   unfolding block
-  delay-at k h = head-at k (omega arith) ∙ List·getD-append (ls .delays) _ 0 k (omega (arith, held .delays))
+  header-at k h = head-at k (omega arith) ∙ List·getD-append (ls .header) _ 0 k (omega (arith, held .header))
 
   counts : List ℕ
   counts = recordsIn ls 1 ∷ recordsIn ls 2 ∷ recordsIn ls 3 ∷ recordsIn ls 4 ∷ recordsIn ls 5 ∷ []
 
-  count-stored : (k : ℕ) → k < 5 → getD (sheetOf ls) (4 + k) 0 ≡ getD counts k 0
+  count-stored : (k : ℕ) → k < 5 → getD (sheetOf ls) (length headerNames + k) 0 ≡ getD counts k 0
   unfolding block counts
-  count-stored k h = head-at (4 + k) (omega arith) ∙ ap (λ (n : ℕ). getD (ls .delays ++ counts) (n + k) 0) (sym (held .delays)) ∙ behind (ls .delays) counts k
+  count-stored k h = head-at (length headerNames + k) (omega arith) ∙ ap (λ (n : ℕ). getD (ls .header ++ counts) (n + k) 0) (sym (held .header)) ∙ behind (ls .header) counts k
 
-  count-on : (s : ℕ) → suc s < 6 → getD (sheetOf ls) (3 + suc s) 0 ≡ recordsIn ls (suc s) → countOn (sheetOf ls) (suc s) ≡ recordsIn ls (suc s)
+  count-on : (s : ℕ) → suc s < 6 → getD (sheetOf ls) (countPlace (suc s)) 0 ≡ recordsIn ls (suc s) → countOn (sheetOf ls) (suc s) ≡ recordsIn ls (suc s)
   unfolding countOn
   count-on s h e = omega (arith, e, held .few s h)
 
@@ -168,10 +169,10 @@ module _ (ls : Lists) (held : Held ls) where
   unfolding networkOn networkAt counts
   network-same =
       let sheet = sheetOf ls in
-      let d0 = units (delay-at 0 (omega arith)) in
-      let d1 = units (delay-at 1 (omega arith)) in
-      let d2 = units (delay-at 2 (omega arith)) in
-      let d3 = units (delay-at 3 (omega arith)) in
+      let d0 = units (header-at (indexIn headerNames name.SendLeast) (omega (arith, list-places .send-least))) in
+      let d1 = units (header-at (indexIn headerNames name.SendGreatest) (omega (arith, list-places .send-greatest))) in
+      let d2 = units (header-at (indexIn headerNames name.ReceiveLeast) (omega (arith, list-places .receive-least))) in
+      let d3 = units (header-at (indexIn headerNames name.ReceiveGreatest) (omega (arith, list-places .receive-greatest))) in
       let systems = ap (tabulate (systemOn sheet)) (count-on 0 (omega arith) (count-stored 0 (omega arith))) ∙ tabulate-same (systemOn sheet) (systemIn inForce ls) (recordsIn ls 1) system-same in
       let vls = ap (tabulate (vlOn sheet)) (count-on 1 (omega arith) (count-stored 1 (omega arith))) ∙ tabulate-same (vlOn sheet) (vlIn inForce ls) (recordsIn ls 2) vl-same in
       let streams = ap (tabulate (streamOn sheet)) (count-on 2 (omega arith) (count-stored 2 (omega arith))) ∙ tabulate-same (streamOn sheet) (streamIn inForce ls) (recordsIn ls 3) stream-same in

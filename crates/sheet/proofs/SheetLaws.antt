@@ -13,9 +13,10 @@ use Rattle.frame.proofs.TickLaws.{per-ms-is, per-unit-is}
 use Rattle.layout.specs.declared.Name.{Name}
 use Rattle.layout.specs.declared.Name.the-variants as name
 use Rattle.layout.specs.Limits.{limits}
+use Rattle.layout.specs.Names.{numberOf, indexIn}
 use Rattle.layout.specs.Layout.{placeOf}
 use Rattle.layout.specs.Rows.{listed}
-use Rattle.layout.specs.Sizes.{place}
+use Rattle.layout.specs.Sizes.{countPlace, place}
 use Rattle.layout.proofs.SizeLaws.{most-are, field-places}
 use Rattle.network.specs.declared.EndSystem.{EndSystem}
 use Rattle.network.specs.declared.Vl.{Vl}
@@ -38,41 +39,41 @@ module _ (sheet : List ℕ) where
   unfolding networkOn
   systems-are = length-tabulate (systemOn sheet) (countOn sheet 1)
 
-  pub systems-on : (r : ℕ) → r ≡ min (getD sheet 4 0) (limits .systems) → (r ≡ length (networkOn sheet .systems)) × (r ≤ limits .systems)
+  pub systems-on : (r : ℕ) → r ≡ min (getD sheet (countPlace 1) 0) (limits .systems) → (r ≡ length (networkOn sheet .systems)) × (r ≤ limits .systems)
   unfolding countOn
-  systems-on r e = (e ∙ ap (λ (n : ℕ). min (getD sheet 4 0) n) (sym (most-are .systems)) ∙ sym systems-are, omega (arith, e))
+  systems-on r e = (e ∙ ap (λ (n : ℕ). min (getD sheet (countPlace 1) 0) n) (sym (most-are .systems)) ∙ sym systems-are, omega (arith, e))
 
   vls-are : length (networkOn sheet .vls) ≡ countOn sheet 2
   unfolding networkOn
   vls-are = length-tabulate (vlOn sheet) (countOn sheet 2)
 
-  pub vls-on : (r : ℕ) → r ≡ min (getD sheet 5 0) (limits .vls) → (r ≡ length (networkOn sheet .vls)) × (r ≤ limits .vls)
+  pub vls-on : (r : ℕ) → r ≡ min (getD sheet (countPlace 2) 0) (limits .vls) → (r ≡ length (networkOn sheet .vls)) × (r ≤ limits .vls)
   unfolding countOn
-  vls-on r e = (e ∙ ap (λ (n : ℕ). min (getD sheet 5 0) n) (sym (most-are .vls)) ∙ sym vls-are, omega (arith, e))
+  vls-on r e = (e ∙ ap (λ (n : ℕ). min (getD sheet (countPlace 2) 0) n) (sym (most-are .vls)) ∙ sym vls-are, omega (arith, e))
 
   streams-are : length (networkOn sheet .streams) ≡ countOn sheet 3
   unfolding networkOn
   streams-are = length-tabulate (streamOn sheet) (countOn sheet 3)
 
-  pub streams-on : (r : ℕ) → r ≡ min (getD sheet 6 0) (limits .streams) → (r ≡ length (networkOn sheet .streams)) × (r ≤ limits .streams)
+  pub streams-on : (r : ℕ) → r ≡ min (getD sheet (countPlace 3) 0) (limits .streams) → (r ≡ length (networkOn sheet .streams)) × (r ≤ limits .streams)
   unfolding countOn
-  streams-on r e = (e ∙ ap (λ (n : ℕ). min (getD sheet 6 0) n) (sym (most-are .streams)) ∙ sym streams-are, omega (arith, e))
+  streams-on r e = (e ∙ ap (λ (n : ℕ). min (getD sheet (countPlace 3) 0) n) (sym (most-are .streams)) ∙ sym streams-are, omega (arith, e))
 
   ports-are : length (networkOn sheet .ports) ≡ countOn sheet 4
   unfolding networkOn
   ports-are = length-tabulate (portOn sheet) (countOn sheet 4)
 
-  pub ports-on : (r : ℕ) → r ≡ min (getD sheet 7 0) (limits .ports) → (r ≡ length (networkOn sheet .ports)) × (r ≤ limits .ports)
+  pub ports-on : (r : ℕ) → r ≡ min (getD sheet (countPlace 4) 0) (limits .ports) → (r ≡ length (networkOn sheet .ports)) × (r ≤ limits .ports)
   unfolding countOn
-  ports-on r e = (e ∙ ap (λ (n : ℕ). min (getD sheet 7 0) n) (sym (most-are .ports)) ∙ sym ports-are, omega (arith, e))
+  ports-on r e = (e ∙ ap (λ (n : ℕ). min (getD sheet (countPlace 4) 0) n) (sym (most-are .ports)) ∙ sym ports-are, omega (arith, e))
 
   hops-are : length (networkOn sheet .hops) ≡ countOn sheet 5
   unfolding networkOn
   hops-are = length-tabulate (hopOn sheet) (countOn sheet 5)
 
-  pub hops-on : (r : ℕ) → r ≡ min (getD sheet 8 0) (limits .hops) → (r ≡ length (networkOn sheet .hops)) × (r ≤ limits .hops)
+  pub hops-on : (r : ℕ) → r ≡ min (getD sheet (countPlace 5) 0) (limits .hops) → (r ≡ length (networkOn sheet .hops)) × (r ≤ limits .hops)
   unfolding countOn
-  hops-on r e = (e ∙ ap (λ (n : ℕ). min (getD sheet 8 0) n) (sym (most-are .hops)) ∙ sym hops-are, omega (arith, e))
+  hops-on r e = (e ∙ ap (λ (n : ℕ). min (getD sheet (countPlace 5) 0) n) (sym (most-are .hops)) ∙ sym hops-are, omega (arith, e))
 
   -- ---- past the last row
   pub system-past : (i : ℕ) → length (networkOn sheet .systems) ≤ i → noSystem ≡ systemAt (networkOn sheet) i
@@ -98,12 +99,12 @@ module _ (sheet : List ℕ) where
   -- ---- the delays
   pub delays-read :
       _≡_ {A = Delays}
-      (record { «send_least» = getD sheet 0 0; «send_greatest» = getD sheet 1 0; «receive_least» = getD sheet 2 0; «receive_greatest» = getD sheet 3 0 })
+      (record { «send_least» = getD sheet 1 0; «send_greatest» = getD sheet 2 0; «receive_least» = getD sheet 3 0; «receive_greatest» = getD sheet 4 0 })
       (delaysIn (networkOn sheet))
-  unfolding networkOn
+  unfolding networkOn indexIn numberOf
   delays-read =
       let at : (k : ℕ) → getD sheet k 0 ≡ perUnit * getD sheet k 0 = λ k. in-units refl in
-      λ i. record { «send_least» = at 0 i; «send_greatest» = at 1 i; «receive_least» = at 2 i; «receive_greatest» = at 3 i }
+      λ i. record { «send_least» = at 1 i; «send_greatest» = at 2 i; «receive_least» = at 3 i; «receive_greatest» = at 4 i }
 
   -- ---- a number of record i, of records of m numbers from a place on: at place k, which is that of its name
   number : (s at m : ℕ) → place s ≡ at → listed s ≡ m → (i k : ℕ) (n : Name) → placeOf s n ≡ k → getD sheet (at + i * m + k) 0 ≡ numberOn sheet s i n

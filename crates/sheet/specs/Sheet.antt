@@ -1,6 +1,6 @@
--- The sheet: a network in memory, as one list of numbers: four delays, the counts of the five sections, and the lists of a table one
+-- The sheet: a network in memory, as one list of numbers: the header's, the counts of the five sections, and the lists of a table one
 -- after the other, each at its place whatever the counts are. Any list of numbers is a sheet. Assumes nothing.
-use Prim.Native.Nat.{ℕ, zero, suc, _+_, _*_, _%_, min}
+use Prim.Native.Nat.{ℕ, zero, suc, _+_, _-_, _*_, _%_, min}
 use mathlib.Core.List.{List, [], _∷_, _++_}
 use lib.Dec.{eqb}
 use lib.ListN.{getD}
@@ -8,10 +8,11 @@ use Rattle.base.specs.Tabulate.{tabulate}
 use Rattle.frame.specs.Tick.{perMs, perUnit, inForce}
 use Rattle.layout.specs.declared.Name.{Name}
 use Rattle.layout.specs.declared.Name.the-variants as name
-use Rattle.layout.specs.Layout.{placeOf}
+use Rattle.layout.specs.Names.{indexIn}
+use Rattle.layout.specs.Layout.{placeOf, headerNames}
 use Rattle.layout.specs.Limits.{most}
 use Rattle.layout.specs.Rows.{listed}
-use Rattle.layout.specs.Sizes.{capacity, place}
+use Rattle.layout.specs.Sizes.{capacity, countPlace, place}
 use Rattle.network.specs.declared.EndSystem.{EndSystem}
 use Rattle.network.specs.declared.Vl.{Vl}
 use Rattle.network.specs.declared.Stream.{Stream}
@@ -21,14 +22,18 @@ use Rattle.network.specs.Network.{Network}
 use Rattle.network.specs.ReferenceFacts.{References}
 use Rattle.network.specs.Ranges.{Ranges}
 use Rattle.table.specs.Sections.{lent}
-use Rattle.table.specs.Write.{Lists, listFor, recordsIn}
+use Rattle.table.specs.Lists.{Lists, listFor, recordsIn}
 use Rattle.table.specs.Decoded.{ticksAt, parentOf}
 use Rattle.sheet.specs.declared.Delays.{Delays}
 
 -- ---- the network on a sheet: it holds the table's numbers, which the rules in force make ticks
+-- the header's number of this name
+abbrev pub headerOn : List ℕ → Name → ℕ
+headerOn sheet n = getD sheet (indexIn headerNames n) 0
+
 -- how many records there are of a section: as the sheet says, and no more than it has room for
 unfoldable pub countOn : List ℕ → ℕ → ℕ
-countOn sheet section = min (getD sheet (3 + section) 0) (most section)
+countOn sheet section = min (getD sheet (countPlace section) 0) (most section)
 
 -- the number of the field of this name, of record i of a section
 unfoldable pub numberOn : List ℕ → ℕ → ℕ → Name → ℕ
@@ -65,15 +70,19 @@ portOn sheet i = record {
 }
 
 unfoldable pub hopOn : List ℕ → ℕ → Hop
-hopOn sheet i = record { vl = numberOn sheet 5 i name.Vl; port = numberOn sheet 5 i name.Port; parent = parentOf (numberOn sheet 5 i name.Parent) }
+hopOn sheet i = record {
+  vl = numberOn sheet 5 i name.Vl;
+  port = numberOn sheet 5 i name.Port;
+  parent = parentOf (numberOn sheet 5 i name.Parent);
+}
 
 unfoldable pub networkOn : List ℕ → Network
 networkOn sheet = record {
   tick = inForce;
-  sendLeast = perUnit * getD sheet 0 0;
-  sendGreatest = perUnit * getD sheet 1 0;
-  receiveLeast = perUnit * getD sheet 2 0;
-  receiveGreatest = perUnit * getD sheet 3 0;
+  sendLeast = perUnit * headerOn sheet name.SendLeast;
+  sendGreatest = perUnit * headerOn sheet name.SendGreatest;
+  receiveLeast = perUnit * headerOn sheet name.ReceiveLeast;
+  receiveGreatest = perUnit * headerOn sheet name.ReceiveGreatest;
   systems = tabulate (systemOn sheet) (countOn sheet 1);
   vls = tabulate (vlOn sheet) (countOn sheet 2);
   streams = tabulate (streamOn sheet) (countOn sheet 3);
@@ -96,9 +105,9 @@ pub record Good (sheet : List ℕ) : Type 0 where
   pub references : References (networkOn sheet)
 
 -- ---- the sheet of a table's lists
--- what stands at the place of a section: the delays and the counts first, then each list and zeros up to its capacity
+-- what stands at the place of a section: the header's numbers and the counts first, then each list and zeros up to its capacity
 unfoldable pub block : Lists → ℕ → List ℕ
-block ls zero = ls .delays ++ (recordsIn ls 1 ∷ recordsIn ls 2 ∷ recordsIn ls 3 ∷ recordsIn ls 4 ∷ recordsIn ls 5 ∷ [])
+block ls zero = ls .header ++ (recordsIn ls 1 ∷ recordsIn ls 2 ∷ recordsIn ls 3 ∷ recordsIn ls 4 ∷ recordsIn ls 5 ∷ [])
 block ls (suc s) = lent (capacity (suc s)) (listFor ls (suc s))
 
 unfoldable pub blocks : Lists → ℕ → List ℕ

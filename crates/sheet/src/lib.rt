@@ -1,5 +1,5 @@
 // The sheet: the network of an accepted table in memory, as one list of numbers, and its records as they are read off it, in ticks.
-// It holds the lists of the table one after the other, each at its place whatever the counts are, behind the delays and the counts. Any array is a sheet.
+// It holds the lists of the table one after the other, each at its place whatever the counts are, behind the header's numbers and the counts. Any array is a sheet.
 use frame::Speed;
 use frame::Tick;
 use layout::places;
@@ -43,31 +43,31 @@ fn at_most(stored: u64, most: usize) -> usize
 pub fn systems_in(net: &[u64; SHEET]) -> usize
     ensures { λ r. ⌜ (r ≡ length (networkOn (now (net .entry)) .systems)) × (r ≤ limits .systems) ⌝ }
 {
-    at_most(net[4], sizes::MOST_SYSTEMS)
+    at_most(net[sizes::SYSTEMS_COUNT], sizes::MOST_SYSTEMS)
 }
 
 pub fn vls_in(net: &[u64; SHEET]) -> usize
     ensures { λ r. ⌜ (r ≡ length (networkOn (now (net .entry)) .vls)) × (r ≤ limits .vls) ⌝ }
 {
-    at_most(net[5], sizes::MOST_VLS)
+    at_most(net[sizes::VLS_COUNT], sizes::MOST_VLS)
 }
 
 pub fn streams_in(net: &[u64; SHEET]) -> usize
     ensures { λ r. ⌜ (r ≡ length (networkOn (now (net .entry)) .streams)) × (r ≤ limits .streams) ⌝ }
 {
-    at_most(net[6], sizes::MOST_STREAMS)
+    at_most(net[sizes::STREAMS_COUNT], sizes::MOST_STREAMS)
 }
 
 pub fn ports_in(net: &[u64; SHEET]) -> usize
     ensures { λ r. ⌜ (r ≡ length (networkOn (now (net .entry)) .ports)) × (r ≤ limits .ports) ⌝ }
 {
-    at_most(net[7], sizes::MOST_PORTS)
+    at_most(net[sizes::PORTS_COUNT], sizes::MOST_PORTS)
 }
 
 pub fn hops_in(net: &[u64; SHEET]) -> usize
     ensures { λ r. ⌜ (r ≡ length (networkOn (now (net .entry)) .hops)) × (r ≤ limits .hops) ⌝ }
 {
-    at_most(net[8], sizes::MOST_HOPS)
+    at_most(net[sizes::HOPS_COUNT], sizes::MOST_HOPS)
 }
 
 // ---- the records; past the last row a record of zeros
@@ -76,10 +76,10 @@ pub fn delays_of(net: &[u64; SHEET]) -> Delays
     ensures { λ r. ⌜ r ≡ delaysIn (networkOn (now (net .entry))) ⌝ }
 {
     Delays {
-        send_least: net[0],
-        send_greatest: net[1],
-        receive_least: net[2],
-        receive_greatest: net[3],
+        send_least: net[places::LIST_SEND_LEAST],
+        send_greatest: net[places::LIST_SEND_GREATEST],
+        receive_least: net[places::LIST_RECEIVE_LEAST],
+        receive_greatest: net[places::LIST_RECEIVE_GREATEST],
     }
 }
 

@@ -15,13 +15,15 @@ use Rattle.base.specs.Least.{leastFrom}
 use Rattle.base.proofs.LeastLaws.{least-none, none-was}
 use Rattle.layout.specs.declared.Way.the-variants.{Reading, Writing}
 use Rattle.base.specs.Tests.{isSome, numberOr0}
+use Rattle.layout.specs.Layout.{headerNames}
 use Rattle.layout.specs.Rows.{listed, rowFault}
 use Rattle.layout.proofs.LayoutLaws.{listed-is}
 use Rattle.table.specs.declared.Answer.{Answer}
 use Rattle.table.specs.Answers.{answer, accepted, firstGiven}
-use Rattle.table.specs.Sections.{headerRow, rows, from, row}
+use Rattle.table.specs.Sections.{headerRow, kindIn, rows, from, row}
+use Rattle.table.specs.Lists.{Lists, listFor, recordsIn, kindFor}
 use Rattle.table.specs.Unpack.{answer1, answer2, answer3, badRow, badSection, answerAtRow, answer4, Lengths, needs, answer11, unpackAnswer}
-use Rattle.table.specs.Write.{Lists, listFor, recordsIn, headerFor, meantRow, whole, write2, badRecord, badList, answerAtRecord, write4, tableSize, write11, writeAnswer}
+use Rattle.table.specs.Write.{headerFor, meantRow, whole, write2, badRecord, badList, answerAtRecord, write4, tableSize, write11, writeAnswer}
 
 -- ---- the first refusal: acceptance passes over each, as a refusal has a number
 refused-number : (a : Answer) → 0 < a .number → a ≡ accepted → ⊥
@@ -78,11 +80,11 @@ module _ (fault : ℕ → ℕ → Option ℕ) (count : ℕ → ℕ) where
 pub record Sound (bytes : List ℕ) : Type 0 where
   pub header : rowFault Reading 0 (headerRow bytes) ≡ none
   pub exact : length bytes ≡ from bytes 6
-  pub good : (s i : ℕ) → suc s < 6 → i < rows bytes (suc s) → rowFault Reading (suc s) (row bytes (suc s) i) ≡ none
+  pub good : (s i : ℕ) → suc s < 6 → i < rows bytes (suc s) → rowFault Reading (kindIn bytes (suc s)) (row bytes (suc s) i) ≡ none
 
 -- and of the lent lists: they hold the table's numbers
 pub record Holds (bytes : List ℕ) (n : Lengths) : Type 0 where
-  pub delays : 4 ≤ n .delays
+  pub header : length headerNames ≤ n .header
   pub systems : needs bytes 1 ≤ n .systems
   pub vls : needs bytes 2 ≤ n .vls
   pub streams : needs bytes 3 ≤ n .streams
@@ -100,7 +102,7 @@ unpack-was bytes n e =
     record {
       header = e3 .0;
       exact = eqb-true (length bytes) (from bytes 6) (e4 .0);
-      good = clean-was (λ s i. rowFault Reading s (row bytes s i)) (rows bytes) (e5 .0);
+      good = clean-was (λ s i. rowFault Reading (kindIn bytes s) (row bytes s i)) (rows bytes) (e5 .0);
     }
 
 pub unpack-is : (bytes : List ℕ) (n : Lengths) → Sound bytes → 14 ≤ length bytes → Holds bytes n → unpackAnswer bytes n ≡ accepted
@@ -109,10 +111,10 @@ unpack-is bytes n sound long holds =
     let none1 : answer1 bytes ≡ none = rw (le-ltb (length bytes) 14 long) in
     let none2 : answer2 bytes ≡ none = rw (sound .header, answer2) in
     let none3 : answer3 bytes ≡ none = rw (eq-eqb (length bytes) (from bytes 6) (sound .exact)) in
-    let none4 : answer4 bytes ≡ none = rw (clean-is (λ s i. rowFault Reading s (row bytes s i)) (rows bytes) (sound .good), answer4) in
+    let none4 : answer4 bytes ≡ none = rw (clean-is (λ s i. rowFault Reading (kindIn bytes s) (row bytes s i)) (rows bytes) (sound .good), answer4) in
     let none11 : answer11 bytes n ≡ none =
     rw (
-      le-leb 4 (n .delays) (holds .delays),
+      le-leb (length headerNames) (n .header) (holds .header),
       le-leb (needs bytes 1) (n .systems) (holds .systems),
       le-leb (needs bytes 2) (n .vls) (holds .vls),
       le-leb (needs bytes 3) (n .streams) (holds .streams),
@@ -124,10 +126,10 @@ unpack-is bytes n sound long holds =
 -- ---- lists
 -- what acceptance says of them: each is a whole number of records, and the header and the records are good
 pub record Writable (ls : Lists) : Type 0 where
-  pub delays : length (ls .delays) ≡ 4
+  pub header-list : length (ls .header) ≡ length headerNames
   pub full : (s : ℕ) → suc s < 6 → length (listFor ls (suc s)) ≡ recordsIn ls (suc s) * listed (suc s)
   pub header : rowFault Writing 0 (headerFor ls) ≡ none
-  pub good : (s i : ℕ) → suc s < 6 → i < recordsIn ls (suc s) → rowFault Writing (suc s) (meantRow ls (suc s) i) ≡ none
+  pub good : (s i : ℕ) → suc s < 6 → i < recordsIn ls (suc s) → rowFault Writing (kindFor ls (suc s)) (meantRow ls (suc s) i) ≡ none
 
 -- a list is a whole number of records of m numbers exactly if none is left over
 whole-list : (l : List ℕ) (m : ℕ) → length l % m ≡ 0 → length l ≡ length l / m * m
@@ -137,14 +139,14 @@ list-whole : (l : List ℕ) (m : ℕ) → length l ≡ length l / m * m → leng
 list-whole l m e = omega (arith, div-add-mod' (length l) m)
 
 whole-was : (ls : Lists) → whole ls ≡ true
-    → (length (ls .delays) ≡ 4) × ((s : ℕ) → suc s < 6 → length (listFor ls (suc s)) ≡ recordsIn ls (suc s) * listed (suc s))
+    → (length (ls .header) ≡ length headerNames) × ((s : ℕ) → suc s < 6 → length (listFor ls (suc s)) ≡ recordsIn ls (suc s) * listed (suc s))
 unfolding whole listFor recordsIn
 whole-was ls e =
     let hops = eqb (length (ls .hops) % listed 5) 0 in
     let ports = eqb (length (ls .ports) % listed 4) 0 in
     let streams = eqb (length (ls .streams) % listed 3) 0 in
     let vls = eqb (length (ls .vls) % listed 2) 0 in
-    let e1 = and-eq-true-iff (eqb (length (ls .delays)) 4) (vls && (streams && (ports && hops))) .0 e in
+    let e1 = and-eq-true-iff (eqb (length (ls .header)) (length headerNames)) (vls && (streams && (ports && hops))) .0 e in
     let e2 = and-eq-true-iff vls (streams && (ports && hops)) .0 (e1 .1) in
     let e3 = and-eq-true-iff streams (ports && hops) .0 (e2 .1) in
     let e4 = and-eq-true-iff ports hops .0 (e3 .1) in
@@ -163,7 +165,7 @@ whole-is : (ls : Lists) → Writable ls → whole ls ≡ true
 unfolding whole listFor recordsIn
 whole-is ls w =
     rw (
-      eq-eqb (length (ls .delays)) 4 (w .delays),
+      eq-eqb (length (ls .header)) (length headerNames) (w .header-list),
       eq-eqb (length (ls .vls) % listed 2) 0 (list-whole (ls .vls) (listed 2) (w .full 1 (omega arith))),
       eq-eqb (length (ls .streams) % listed 3) 0 (list-whole (ls .streams) (listed 3) (w .full 2 (omega arith))),
       eq-eqb (length (ls .ports) % listed 4) 0 (list-whole (ls .ports) (listed 4) (w .full 3 (omega arith))),
@@ -180,16 +182,16 @@ write-was ls room e =
     let e4 = fault-passed (badList ls) (λ s. answerAtRecord ls s (numberOr0 (badRecord ls s))) (write11 ls room ∷ []) (λ s. omega arith) (e3 .1) in
     let parts = whole-was ls (e2 .0) in
     record {
-      delays = parts .0;
+      header-list = parts .0;
       full = parts .1;
       header = e3 .0;
-      good = clean-was (λ s i. rowFault Writing s (meantRow ls s i)) (recordsIn ls) (e4 .0);
+      good = clean-was (λ s i. rowFault Writing (kindFor ls s) (meantRow ls s i)) (recordsIn ls) (e4 .0);
     }
 
 pub write-is : (ls : Lists) (room : ℕ) → Writable ls → tableSize ls ≤ room → writeAnswer ls room ≡ accepted
 unfolding writeAnswer write2 write4 write11 firstGiven badList badRecord
 write-is ls room w h =
     let none2 : write2 ls ≡ none = rw (whole-is ls w, w .header, write2) in
-    let none4 : write4 ls ≡ none = rw (clean-is (λ s i. rowFault Writing s (meantRow ls s i)) (recordsIn ls) (w .good), write4) in
+    let none4 : write4 ls ≡ none = rw (clean-is (λ s i. rowFault Writing (kindFor ls s) (meantRow ls s i)) (recordsIn ls) (w .good), write4) in
     let none11 : write11 ls room ≡ none = rw (le-leb (tableSize ls) room h) in
     rw (none2, none4, none11)

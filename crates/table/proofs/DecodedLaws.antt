@@ -2,7 +2,7 @@
 -- Assumes nothing.
 use Prim.Native.Nat.{ℕ, _*_, _<_}
 use mathlib.Core.Path.{_≡_, refl, ap, _∙_}
-use lib.ListN.{length, getD}
+use lib.ListN.{length}
 use Rattle.base.proofs.TabulateLaws.{length-tabulate, tabulate-at}
 use Rattle.frame.specs.Tick.{perMs, inForce}
 use Rattle.frame.proofs.TickLaws.{per-unit-is}
@@ -12,7 +12,7 @@ use Rattle.network.specs.declared.Vl.{Vl}
 use Rattle.network.specs.declared.Stream.{Stream}
 use Rattle.network.specs.declared.Port.{Port}
 use Rattle.network.specs.Network.{noSystem, noVl, noStream, noPort, systemAt, vlAt, streamAt, portAt}
-use Rattle.table.specs.Write.{Lists, recordsIn}
+use Rattle.table.specs.Lists.{Lists, recordsIn, headerAt}
 use Rattle.table.specs.Decoded.{numberAt, ticksAt, systemIn, vlIn, streamIn, portIn, hopIn, networkAt, networkOf}
 
 -- ---- the delays, and how many rows there are
@@ -21,21 +21,21 @@ module _ (ls : Lists) where
   unfolding networkAt
   rules-are = refl
 
-  pub send-least : networkOf ls .sendLeast ≡ getD (ls .delays) 0 0
+  pub send-least : networkOf ls .sendLeast ≡ headerAt ls name.SendLeast
   unfolding networkAt
-  send-least = per-unit-is (getD (ls .delays) 0 0)
+  send-least = per-unit-is (headerAt ls name.SendLeast)
 
-  pub send-greatest : networkOf ls .sendGreatest ≡ getD (ls .delays) 1 0
+  pub send-greatest : networkOf ls .sendGreatest ≡ headerAt ls name.SendGreatest
   unfolding networkAt
-  send-greatest = per-unit-is (getD (ls .delays) 1 0)
+  send-greatest = per-unit-is (headerAt ls name.SendGreatest)
 
-  pub receive-least : networkOf ls .receiveLeast ≡ getD (ls .delays) 2 0
+  pub receive-least : networkOf ls .receiveLeast ≡ headerAt ls name.ReceiveLeast
   unfolding networkAt
-  receive-least = per-unit-is (getD (ls .delays) 2 0)
+  receive-least = per-unit-is (headerAt ls name.ReceiveLeast)
 
-  pub receive-greatest : networkOf ls .receiveGreatest ≡ getD (ls .delays) 3 0
+  pub receive-greatest : networkOf ls .receiveGreatest ≡ headerAt ls name.ReceiveGreatest
   unfolding networkAt
-  receive-greatest = per-unit-is (getD (ls .delays) 3 0)
+  receive-greatest = per-unit-is (headerAt ls name.ReceiveGreatest)
 
   pub systems-are : length (networkOf ls .systems) ≡ recordsIn ls 1
   unfolding networkAt

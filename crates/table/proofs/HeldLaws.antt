@@ -8,11 +8,11 @@ use lib.ListN.{getD, drop}
 use lib.Seq.{getD-take, getD-drop}
 use Rattle.layout.specs.declared.Way.the-variants.{Reading}
 use Rattle.bits.specs.Tables.{Fit}
-use Rattle.layout.specs.Layout.{layout, kindsOf, kindOf, widths, size}
+use Rattle.layout.specs.Layout.{layout, widths, size}
 use Rattle.layout.specs.Rows.{converted, listed}
 use Rattle.layout.proofs.RoomLaws.{row-fits}
 use Rattle.layout.proofs.PlainLaws.{PlainEndSystem, end-system-plain, PlainVl, vl-plain, PlainStream, stream-plain, PlainPort, port-plain}
-use Rattle.table.specs.Sections.{rows, from, row, recordOf, records}
+use Rattle.table.specs.Sections.{version, kindIn, rows, from, row, recordOf, records}
 use Rattle.table.proofs.AnswerLaws.{Sound}
 use Rattle.table.proofs.SectionLaws.{record-at}
 use Rattle.table.proofs.UnpackLaws.{sound-rows}
@@ -20,34 +20,30 @@ use Rattle.table.proofs.UnpackLaws.{sound-rows}
 -- ---- the numbers of a section's records
 module _ (bytes : List ℕ) where
   -- a row that is read fits its fields
-  fit-row : (s i : ℕ) → Fit (widths s) (row bytes s i)
+  fit-row : (s i : ℕ) → Fit (widths (kindIn bytes s)) (row bytes s i)
   unfolding row
-  fit-row s i = row-fits bytes (8 * (from bytes s + i * size s)) s
+  fit-row s i = row-fits bytes (8 * (from bytes s + i * size (kindIn bytes s))) (kindIn bytes s)
 
   pub record-number : (s n i k : ℕ) → i < n → k < listed s
-      → getD (records bytes s n) (i * listed s + k) 0 ≡ getD (converted Reading (layout s) (row bytes s i)) k 0
+      → getD (records bytes s n) (i * listed s + k) 0 ≡ getD (converted Reading (layout (kindIn bytes s)) (row bytes s i)) k 0
   unfolding recordOf
   record-number s n i k h l =
       let all = records bytes s n in
       sym (getD-drop (i * listed s) all k 0)
       ∙ sym (getD-take (listed s) (drop (i * listed s) all) k 0 l)
       ∙ ap (λ (r : List ℕ). getD r k 0) (record-at bytes s n i h)
-      ∙ getD-take (listed s) (converted Reading (layout s) (row bytes s i)) k 0 l
+      ∙ getD-take (listed s) (converted Reading (layout (kindIn bytes s)) (row bytes s i)) k 0 l
 
   -- ---- the rows in plain facts
   module _ (sound : Sound bytes) (i : ℕ) where
-    pub system-row : i < rows bytes 1 → PlainEndSystem (converted Reading (layout 1) (row bytes 1 i))
-    unfolding kindOf kindsOf
-    system-row h = end-system-plain 1 (row bytes 1 i) (sound-rows bytes sound 1 i (omega arith) h)
+    pub system-row : i < rows bytes 1 → PlainEndSystem (converted Reading (layout (kindIn bytes 1)) (row bytes 1 i))
+    system-row h = end-system-plain (version bytes) (row bytes 1 i) (sound-rows bytes sound 1 i (omega arith) h)
 
-    pub vl-row : i < rows bytes 2 → PlainVl (converted Reading (layout 2) (row bytes 2 i))
-    unfolding kindOf kindsOf
-    vl-row h = vl-plain 1 (row bytes 2 i) (sound-rows bytes sound 2 i (omega arith) h) (fit-row 2 i)
+    pub vl-row : i < rows bytes 2 → PlainVl (converted Reading (layout (kindIn bytes 2)) (row bytes 2 i))
+    vl-row h = vl-plain (version bytes) (row bytes 2 i) (sound-rows bytes sound 2 i (omega arith) h) (fit-row 2 i)
 
-    pub stream-row : i < rows bytes 3 → PlainStream (converted Reading (layout 3) (row bytes 3 i))
-    unfolding kindOf kindsOf
-    stream-row h = stream-plain 1 (row bytes 3 i) (sound-rows bytes sound 3 i (omega arith) h) (fit-row 3 i)
+    pub stream-row : i < rows bytes 3 → PlainStream (converted Reading (layout (kindIn bytes 3)) (row bytes 3 i))
+    stream-row h = stream-plain (version bytes) (row bytes 3 i) (sound-rows bytes sound 3 i (omega arith) h) (fit-row 3 i)
 
-    pub port-row : i < rows bytes 4 → PlainPort (converted Reading (layout 4) (row bytes 4 i))
-    unfolding kindOf kindsOf
-    port-row h = port-plain 1 (row bytes 4 i) (sound-rows bytes sound 4 i (omega arith) h)
+    pub port-row : i < rows bytes 4 → PlainPort (converted Reading (layout (kindIn bytes 4)) (row bytes 4 i))
+    port-row h = port-plain (version bytes) (row bytes 4 i) (sound-rows bytes sound 4 i (omega arith) h)

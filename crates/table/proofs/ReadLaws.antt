@@ -7,8 +7,6 @@ use mathlib.Core.Option.{Option, none, some, Option·some-ne-none}
 use mathlib.Core.Path.{_≡_, refl, ap, _∙_}
 use native.Mathlib.Omega.{arith}
 use borrow.Author.Tests.{eq-eqb, ne-eqb}
-use lib.ListN.{getD, drop}
-use lib.Seq.{getD-take, getD-drop}
 use Rattle.base.specs.Tests.{numberOr0}
 use Rattle.base.proofs.TestLaws.{no-row-was}
 use Rattle.frame.specs.Tick.{perMs, inForce}
@@ -17,6 +15,7 @@ use Rattle.frame.proofs.GapLaws.{ms-back, gap-in-ms, gap-bounds}
 use Rattle.layout.specs.declared.Way.the-variants.{Reading}
 use Rattle.layout.specs.declared.Name.{Name}
 use Rattle.layout.specs.declared.Name.the-variants as name
+use Rattle.layout.specs.Names.{numberOf, indexIn}
 use Rattle.layout.specs.Layout.{layout, placeOf}
 use Rattle.layout.specs.Rows.{named, converted, listed}
 use Rattle.layout.proofs.SizeLaws.{most-are, field-places}
@@ -29,10 +28,8 @@ use Rattle.network.specs.Ranges.{SpeedRange, VlRange, StreamRange, PortRange, R
 use Rattle.network.proofs.ReferenceLaws.{references-hold}
 use Rattle.table.specs.declared.Answer.{Answer}
 use Rattle.table.specs.Answers.{accepted}
-use Rattle.table.specs.Sections.{headerRow, rows, row}
-use Rattle.table.specs.Unpack.{delaysOf}
-use Rattle.table.specs.Write.{listFor, recordsIn}
-use Rattle.table.specs.RoundTrip.{unpacked}
+use Rattle.table.specs.Sections.{headerRow, kindIn, rows, row}
+use Rattle.table.specs.Lists.{listFor, recordsIn, headerOf, unpacked}
 use Rattle.table.specs.Decoded.{numberAt, ticksAt}
 use Rattle.table.specs.Read.{networkIn, badRefSection, answerAtReference, answer5, readAnswer}
 use Rattle.table.proofs.AnswerLaws.{Sound, unpack-was}
@@ -67,7 +64,7 @@ module _ (bytes : List ℕ) where
   count-read s h = count-is bytes (suc s) h
 
   pub number-read : (s i : ℕ) (n : Name) → suc s < 6 → i < rows bytes (suc s) → placeOf (suc s) n < listed (suc s)
-      → numberAt (unpacked bytes) (suc s) i n ≡ named (suc s) (converted Reading (layout (suc s)) (row bytes (suc s) i)) n
+      → numberAt (unpacked bytes) (suc s) i n ≡ named (suc s) (converted Reading (layout (kindIn bytes (suc s))) (row bytes (suc s) i)) n
   unfolding numberAt named listFor unpacked
   number-read zero i n h l m = record-number bytes 1 (rows bytes 1) i (placeOf 1 n) l m
   number-read (suc zero) i n h l m = record-number bytes 2 (rows bytes 2) i (placeOf 2 n) l m
@@ -75,16 +72,6 @@ module _ (bytes : List ℕ) where
   number-read (suc (suc (suc zero))) i n h l m = record-number bytes 4 (rows bytes 4) i (placeOf 4 n) l m
   number-read (suc (suc (suc (suc zero)))) i n h l m = record-number bytes 5 (rows bytes 5) i (placeOf 5 n) l m
   number-read (suc (suc (suc (suc (suc s))))) i n h l m = absurd (omega arith)
-
-  pub delay-read : (k : ℕ) → k < 4 → getD (delaysOf bytes) k 0 ≡ getD (converted Reading (layout 0) (headerRow bytes)) (6 + k) 0
-  unfolding delaysOf
-  delay-read k h =
-      let vs = converted Reading (layout 0) (headerRow bytes) in
-      getD-take 4 (drop 6 vs) k 0 h ∙ getD-drop 6 vs k 0
-
-  delay-named : (k : ℕ) (n : Name) → k < 4 → placeOf 0 n ≡ 6 + k → getD (delaysOf bytes) k 0 ≡ named 0 (converted Reading (layout 0) (headerRow bytes)) n
-  unfolding named
-  delay-named k n h e = rw e (delay-read k h)
 
 -- ---- the ranges
 speed : (mbit : ℕ) → (mbit ≡ 100) ⊎ (mbit ≡ 10) → SpeedRange (ticksAt inForce mbit)
@@ -105,7 +92,7 @@ module _ (bytes : List ℕ) (sound : Sound bytes) (i : ℕ) where
   unfolding networkIn
   vl-range h =
       let at : i < recordsIn (unpacked bytes) 2 = omega (arith, count-read bytes 1 (omega arith)) in
-      let number : (n : Name) → placeOf 2 n < 4 → numberAt (unpacked bytes) 2 i n ≡ named 2 (converted Reading (layout 2) (row bytes 2 i)) n
+      let number : (n : Name) → placeOf 2 n < 4 → numberAt (unpacked bytes) 2 i n ≡ named 2 (converted Reading (layout (kindIn bytes 2)) (row bytes 2 i)) n
       = λ n l. number-read bytes 1 i n (omega arith) h (omega (arith, listed-is 2)) in
       let p = vl-row bytes sound i h in
       let gap = vl-gap (unpacked bytes) i at ∙ ap (λ (ms : ℕ). perMs * ms) (number name.Gap (omega (arith, field-places .vl-gap))) in
@@ -128,7 +115,7 @@ module _ (bytes : List ℕ) (sound : Sound bytes) (i : ℕ) where
   unfolding networkIn
   stream-range h =
       let at : i < recordsIn (unpacked bytes) 3 = omega (arith, count-read bytes 2 (omega arith)) in
-      let number : (n : Name) → placeOf 3 n < 7 → numberAt (unpacked bytes) 3 i n ≡ named 3 (converted Reading (layout 3) (row bytes 3 i)) n
+      let number : (n : Name) → placeOf 3 n < 7 → numberAt (unpacked bytes) 3 i n ≡ named 3 (converted Reading (layout (kindIn bytes 3)) (row bytes 3 i)) n
       = λ n l. number-read bytes 2 i n (omega arith) h (omega (arith, listed-is 3)) in
       let p = stream-row bytes sound i h in
       let size = stream-size (unpacked bytes) i at ∙ number name.Size (omega (arith, field-places .stream-size)) in
@@ -148,7 +135,7 @@ module _ (bytes : List ℕ) (sound : Sound bytes) (i : ℕ) where
   unfolding networkIn
   port-range h =
       let at : i < recordsIn (unpacked bytes) 4 = omega (arith, count-read bytes 3 (omega arith)) in
-      let number : (n : Name) → placeOf 4 n < 3 → numberAt (unpacked bytes) 4 i n ≡ named 4 (converted Reading (layout 4) (row bytes 4 i)) n
+      let number : (n : Name) → placeOf 4 n < 3 → numberAt (unpacked bytes) 4 i n ≡ named 4 (converted Reading (layout (kindIn bytes 4)) (row bytes 4 i)) n
       = λ n l. number-read bytes 3 i n (omega arith) h (omega (arith, listed-is 4)) in
       let p = port-row bytes sound i h in
       let least = port-delay-least (unpacked bytes) i at ∙ number name.SwitchLeast (omega (arith, field-places .port-least)) in
@@ -160,7 +147,7 @@ module _ (bytes : List ℕ) (sound : Sound bytes) (i : ℕ) where
       }
 
 pub sound-ranges : (bytes : List ℕ) → Sound bytes → Ranges (networkIn bytes)
-unfolding networkIn unpacked
+unfolding networkIn unpacked headerOf indexIn numberOf
 sound-ranges bytes sound =
     let ls = unpacked bytes in
     let limit = few bytes (sound .header) in
@@ -171,10 +158,10 @@ sound-ranges bytes sound =
     let streams = streams-are ls ∙ count-read bytes 2 (omega arith) in
     let ports = ports-are ls ∙ count-read bytes 3 (omega arith) in
     let hops = hops-are ls ∙ count-read bytes 4 (omega arith) in
-    let s0 = send-least ls ∙ delay-named bytes 0 name.SendLeast (omega arith) (field-places .send-least) in
-    let s1 = send-greatest ls ∙ delay-named bytes 1 name.SendGreatest (omega arith) (field-places .send-greatest) in
-    let r0 = receive-least ls ∙ delay-named bytes 2 name.ReceiveLeast (omega arith) (field-places .receive-least) in
-    let r1 = receive-greatest ls ∙ delay-named bytes 3 name.ReceiveGreatest (omega arith) (field-places .receive-greatest) in
+    let s0 = send-least ls in
+    let s1 = send-greatest ls in
+    let r0 = receive-least ls in
+    let r1 = receive-greatest ls in
     record {
       in-force = rules-are ls;
       few-systems = rw systems (omega (arith, limit 0 (omega arith), m .systems));

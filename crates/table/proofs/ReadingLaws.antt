@@ -13,6 +13,7 @@ use Rattle.base.specs.Tests.{numberOr0}
 use Rattle.layout.specs.declared.Way.the-variants.{Reading}
 use Rattle.layout.specs.Rows.{listed, rowFault}
 use Rattle.layout.specs.Limits.{most}
+use Rattle.layout.specs.Layout.{headerNames}
 use Rattle.layout.proofs.PlainLaws.{header-plain}
 use Rattle.network.specs.References.{badReference, badSample}
 use Rattle.table.specs.declared.Answer.{Answer}
@@ -54,11 +55,11 @@ read-refuse bytes =
 
 -- ---- the counts of a good header are in 01's limits
 pub few : (bytes : List ℕ) → rowFault Reading 0 (headerRow bytes) ≡ none → (s : ℕ) → suc s < 6 → rows bytes (suc s) ≤ most (suc s)
-few bytes ok s h = omega (arith, header-plain (headerRow bytes) ok .counts s h, header-rows bytes ok (suc s) h)
+few bytes ok s h = omega (arith, header-plain (headerRow bytes) ok .counts s h, header-rows bytes ok s h)
 
 -- so lists of these lengths hold every table
 pub record Roomy (n : Lengths) : Type 0 where
-  pub delays : 4 ≤ n .delays
+  pub header : length headerNames ≤ n .header
   pub systems : most 1 * listed 1 ≤ n .systems
   pub vls : most 2 * listed 2 ≤ n .vls
   pub streams : most 3 * listed 3 ≤ n .streams
@@ -68,7 +69,7 @@ pub record Roomy (n : Lengths) : Type 0 where
 -- the lengths of the reader's own lists
 abbrev pub readersLengths : Lengths
 readersLengths = record {
-  delays = 4;
+  header = length headerNames;
   systems = most 1 * listed 1;
   vls = most 2 * listed 2;
   streams = most 3 * listed 3;
@@ -78,7 +79,7 @@ readersLengths = record {
 
 pub readers-roomy : Roomy readersLengths
 readers-roomy = record {
-  delays = omega arith;
+  header = omega arith;
   systems = omega arith;
   vls = omega arith;
   streams = omega arith;
@@ -93,7 +94,7 @@ module _ (bytes : List ℕ) (n : Lengths) (big : Roomy n) where
       let fits : (s : ℕ) → suc s < 6 → rows bytes (suc s) * listed (suc s) ≤ most (suc s) * listed (suc s) =
       λ s h. mul-le-mul-right (listed (suc s)) (few bytes ok s h) in
       rw (
-        le-leb 4 (n .delays) (big .delays),
+        le-leb (length headerNames) (n .header) (big .header),
         le-leb (rows bytes 1 * listed 1) (n .systems) (omega (arith, fits 0 (omega arith), big .systems)),
         le-leb (rows bytes 2 * listed 2) (n .vls) (omega (arith, fits 1 (omega arith), big .vls)),
         le-leb (rows bytes 3 * listed 3) (n .streams) (omega (arith, fits 2 (omega arith), big .streams)),

@@ -7,9 +7,10 @@ use native.Mathlib.Omega.{arith}
 use Rattle.layout.specs.Layout.{size}
 use Rattle.layout.proofs.RoomLaws.{row-fits}
 use Rattle.layout.proofs.BackLaws.{read-written, read-writable, written-fits, written-readable, written-read}
-use Rattle.table.specs.Sections.{rows, from, row}
+use Rattle.table.specs.Sections.{kindIn, rows, from, row}
+use Rattle.table.specs.Lists.{kindFor, unpacked}
 use Rattle.table.specs.Write.{packed}
-use Rattle.table.specs.RoundTrip.{unpacked, Unpack-after-write, Write-after-unpack, Determined}
+use Rattle.table.specs.RoundTrip.{Unpack-after-write, Write-after-unpack, Determined}
 use Rattle.table.proofs.AnswerLaws.{unpack-was, unpack-is, write-was, write-is}
 use Rattle.table.proofs.WriteLaws.{count, meant, good-rows, length-meant}
 use Rattle.table.proofs.UnpackLaws.{Again, sound-rows, size-unpacked, same-bytes, writable}
@@ -22,9 +23,9 @@ unpack-after-write ls room e n long =
     λ s i h l.
     let ok = good-rows ls w s i h l in
     record {
-      same = written-read s (meant ls s i) ok (length-meant ls w s i h l);
-      fit = written-fits s (meant ls s i) ok;
-      good = written-readable s (meant ls s i) ok;
+      same = written-read (kindFor ls s) (meant ls s i) ok (length-meant ls w s i h l);
+      fit = written-fits (kindFor ls s) (meant ls s i) ok;
+      good = written-readable (kindFor ls s) (meant ls s i) ok;
     } in
     (unpack-is (packed ls) n (packed-sound ls w back) (header-fits ls w back) (lists-hold ls w back n long), same-lists ls w back)
 
@@ -35,8 +36,9 @@ write-after-unpack bytes n b e room long =
     let again : (s i : ℕ) → s < 6 → i < rows bytes s → Again bytes s i =
     λ s i h l.
     let ok = sound-rows bytes sound s i h l in
-    let fit = row-fits bytes (8 * (from bytes s + i * size s)) s in
-    record { same = read-written s (row bytes s i) ok fit; good = read-writable s (row bytes s i) ok fit } in
+    let k = kindIn bytes s in
+    let fit = row-fits bytes (8 * (from bytes s + i * size k)) k in
+    record { same = read-written k (row bytes s i) ok fit; good = read-writable k (row bytes s i) ok fit } in
     (write-is (unpacked bytes) room (writable bytes sound again) (omega (arith, size-unpacked bytes sound)), same-bytes bytes sound again b)
 
 pub determined : Determined

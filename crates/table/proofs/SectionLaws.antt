@@ -18,15 +18,15 @@ use Rattle.bits.specs.Tables.{readRows, tableBits, readTable}
 use Rattle.bits.proofs.TableLaws.{bits-more, table-more}
 use Rattle.layout.specs.declared.Kind.{Kind}
 use Rattle.layout.specs.declared.Way.the-variants.{Reading}
-use Rattle.layout.specs.Layout.{layout, blank, widths, size}
+use Rattle.layout.specs.Layout.{layout, kindOf, blank, widths, size}
 use Rattle.layout.specs.Fields.{meaning, convert}
 use Rattle.base.specs.Tests.{numberOr0}
 use Rattle.layout.specs.Rows.{converted, listed}
-use Rattle.layout.proofs.LayoutLaws.{listed-fields, unlisted, whole-bytes, size-most}
+use Rattle.layout.proofs.LayoutLaws.{listed-fields, listed-same, unlisted, whole-bytes, size-most}
 use Rattle.layout.proofs.ReadLaws.{count-lt}
 use Rattle.layout.proofs.RowLaws.{length-converted, converted-at}
 use Rattle.layout.proofs.RoomLaws.{room-yes, row-there}
-use Rattle.table.specs.Sections.{headerRow, rows, from, row, recordOf, records}
+use Rattle.table.specs.Sections.{headerRow, version, kindIn, rows, from, row, recordOf, records}
 
 -- ---- padding means 0
 padding-means : (s k n : ℕ) → listed s ≤ k → numberOr0 (convert Reading (getD (layout s) k blank) n) ≡ 0
@@ -36,6 +36,9 @@ padding-means s k n h = ap (λ (kind : Kind). numberOr0 (meaning kind n)) (unlis
     go : (t : Bool) → numberOr0 (pick t (some 0) none) ≡ 0
     go true = refl
     go false = refl
+
+pub padding-at : (s k : ℕ) (raw : List ℕ) → listed s ≤ k → k < length (layout s) → getD (converted Reading (layout s) raw) k 0 ≡ 0
+padding-at s k raw h l = converted-at Reading (layout s) raw k l ∙ padding-means s k (getD raw k 0) h
 
 -- so a row that is meant is what the lists have of it, and zeros
 pub padded : (s : ℕ) (raw : List ℕ)
@@ -49,53 +52,58 @@ padded s raw =
     (m ∙ rw n (sym (length-replicate {A = ℕ} (length (layout s) - listed s) 0)))
     (λ i h.
     getD-drop (listed s) vs i 0
-    ∙ converted-at Reading (layout s) raw (listed s + i) (omega arith)
-    ∙ padding-means s (listed s + i) (getD raw (listed s + i) 0) (omega arith)
+    ∙ padding-at s (listed s + i) raw (omega arith) (omega arith)
     ∙ sym (getD-replicate (length (layout s) - listed s) i 0 0 (omega arith))) in
     ap (λ (zs : List ℕ). take (listed s) vs ++ zs) (sym zeros) ∙ take-append-drop (listed s) vs
 
--- ---- sections by their numbers, where a function says how many rows each has
-abbrev pub sectionAt : (ℕ → ℕ) → ℕ → Section
-sectionAt count s = record { widths = widths s; count = count s }
+-- and of any version, as all have the same numbers in the lists
+pub padded-in : (v s : ℕ) (raw : List ℕ)
+    → take (listed s) (converted Reading (layout (kindOf v s)) raw) ++ replicate (length (layout (kindOf v s)) - listed s) 0
+    ≡ converted Reading (layout (kindOf v s)) raw
+padded-in v s raw = rw (listed-same v s) at (padded (kindOf v s) raw)
+
+-- ---- sections by their numbers, of a version v, where a function says how many rows each has
+abbrev pub sectionAt : ℕ → (ℕ → ℕ) → ℕ → Section
+sectionAt v count s = record { widths = widths (kindOf v s); count = count s }
 
 -- the byte where a section begins
-unfoldable pub start : (ℕ → ℕ) → ℕ → ℕ
-start count zero = 0
-start count (suc s) = start count s + count s * size s
+unfoldable pub start : ℕ → (ℕ → ℕ) → ℕ → ℕ
+start v count zero = 0
+start v count (suc s) = start v count s + count s * size (kindOf v s)
 
-pub start-same : (f g : ℕ → ℕ) (n : ℕ) → ((s : ℕ) → s < n → f s ≡ g s) → start f n ≡ start g n
+pub start-same : (v : ℕ) (f g : ℕ → ℕ) (n : ℕ) → ((s : ℕ) → s < n → f s ≡ g s) → start v f n ≡ start v g n
 unfolding start
-start-same f g zero same = refl
-start-same f g (suc n) same = rw (start-same f g n (λ s h. same s (omega arith)), same n (omega arith))
+start-same v f g zero same = refl
+start-same v f g (suc n) same = rw (start-same v f g n (λ s h. same s (omega arith)), same n (omega arith))
 
-pub start-le : (count : ℕ → ℕ) (s t : ℕ) → s ≤ t → start count s ≤ start count t
+pub start-le : (v : ℕ) (count : ℕ → ℕ) (s t : ℕ) → s ≤ t → start v count s ≤ start v count t
 unfolding start
-start-le count s zero h = let e : s ≡ 0 = omega arith in rw e (omega arith)
-start-le count s (suc t) h = ⊎-elim
+start-le v count s zero h = let e : s ≡ 0 = omega arith in rw e (omega arith)
+start-le v count s (suc t) h = ⊎-elim
     (λ (e : s ≡ suc t). rw e (omega arith))
-    (λ (l : s < suc t). omega (arith, start-le count s t (le-of-suc-le-suc l)))
+    (λ (l : s < suc t). omega (arith, start-le v count s t (le-of-suc-le-suc l)))
     (eq-or-lt-of-le h)
 
-pub bits-are : (count : ℕ → ℕ) (n : ℕ) → tableBits (tabulate (sectionAt count) n) ≡ 8 * start count n
+pub bits-are : (v : ℕ) (count : ℕ → ℕ) (n : ℕ) → tableBits (tabulate (sectionAt v count) n) ≡ 8 * start v count n
 unfolding start tableBits tabulate sectionBits
-bits-are count zero = refl
-bits-are count (suc n) =
-    omega (arith, bits-more (tabulate (sectionAt count) n) (sectionAt count n), bits-are count n, ap (λ (m : ℕ). count n * m) (whole-bytes n))
+bits-are v count zero = refl
+bits-are v count (suc n) =
+    omega (arith, bits-more (tabulate (sectionAt v count) n) (sectionAt v count n), bits-are v count n, ap (λ (m : ℕ). count n * m) (whole-bytes (kindOf v n)))
 
 -- the rows of a section
-abbrev pub rowsAt : List ℕ → (ℕ → ℕ) → ℕ → List (List ℕ)
-rowsAt bytes count s = readRows bytes (8 * start count s) (widths s) (count s)
+abbrev pub rowsAt : List ℕ → ℕ → (ℕ → ℕ) → ℕ → List (List ℕ)
+rowsAt bytes v count s = readRows bytes (8 * start v count s) (widths (kindOf v s)) (count s)
 
-pub table-read : (bytes : List ℕ) (count : ℕ → ℕ) (n : ℕ) → readTable bytes 0 (tabulate (sectionAt count) n) ≡ tabulate (rowsAt bytes count) n
+pub table-read : (bytes : List ℕ) (v : ℕ) (count : ℕ → ℕ) (n : ℕ) → readTable bytes 0 (tabulate (sectionAt v count) n) ≡ tabulate (rowsAt bytes v count) n
 unfolding readTable tabulate
-table-read bytes count zero = refl
-table-read bytes count (suc n) =
-    let here : 0 + tableBits (tabulate (sectionAt count) n) ≡ 8 * start count n = omega (arith, bits-are count n) in
-    table-more bytes 0 (tabulate (sectionAt count) n) (sectionAt count n)
-    ∙ ap₂ (λ (r : List (List (List ℕ))) (a : ℕ). r ++ (readRows bytes a (widths n) (count n) ∷ [])) (table-read bytes count n) here
+table-read bytes v count zero = refl
+table-read bytes v count (suc n) =
+    let here : 0 + tableBits (tabulate (sectionAt v count) n) ≡ 8 * start v count n = omega (arith, bits-are v count n) in
+    table-more bytes 0 (tabulate (sectionAt v count) n) (sectionAt v count n)
+    ∙ ap₂ (λ (r : List (List (List ℕ))) (a : ℕ). r ++ (readRows bytes a (widths (kindOf v n)) (count n) ∷ [])) (table-read bytes v count n) here
 
 module _ (bytes : List ℕ) where
-  pub from-is : (s : ℕ) → from bytes s ≡ start (rows bytes) s
+  pub from-is : (s : ℕ) → from bytes s ≡ start (version bytes) (rows bytes) s
   unfolding from start
   from-is zero = refl
   from-is (suc s) = rw (from-is s)
@@ -106,10 +114,10 @@ module _ (bytes : List ℕ) where
   rows-few zero h = omega arith
   rows-few (suc s) h = count-lt (take (size 0) bytes) 0 (suc s) h
 
-  pub section-most : (s : ℕ) → s < 6 → rows bytes s * size s ≤ 57344
+  pub section-most : (s : ℕ) → s < 6 → rows bytes s * size (kindIn bytes s) ≤ 57344
   section-most s h =
       let few = rows-few s h in
-      mul-le-mul {n₁ = rows bytes s} {n₂ = 4096} (omega arith) (size-most s)
+      mul-le-mul {n₁ = rows bytes s} {n₂ = 4096} (omega arith) (size-most (kindIn bytes s))
 
   pub from-most : (s : ℕ) → s ≤ 6 → from bytes s ≤ s * 57344
   unfolding from
@@ -118,24 +126,26 @@ module _ (bytes : List ℕ) where
 
   -- ---- a row that is there
   pub row-read : from bytes 6 ≤ length bytes → length bytes ≤ 2 ^ 32 → (s i : ℕ) → s < 6 → i < rows bytes s
-      → row bytes s i ≡ readAll bytes (8 * start (rows bytes) s + i * total (widths s)) (widths s)
+      → row bytes s i ≡ readAll bytes (8 * start (version bytes) (rows bytes) s + i * total (widths (kindIn bytes s))) (widths (kindIn bytes s))
   unfolding row start
   row-read fits short s i h l =
-      let a = 8 * (from bytes s + i * size s) in
+      let k = kindIn bytes s in
+      let a = 8 * (from bytes s + i * size k) in
       let begins = from-is s in
       let ends = from-is 6 in
-      let next = start-le (rows bytes) (suc s) 6 h in
-      let bits = whole-bytes s in
-      let more = mul-le-mul-right (size s) l in
-      let here : a ≡ 8 * start (rows bytes) s + i * total (widths s) = omega (arith, ap (λ (n : ℕ). i * n) bits) in
-      row-there bytes a s (room-yes (length bytes) a (widths s) short (omega arith)) ∙ ap (λ (b : ℕ). readAll bytes b (widths s)) here
+      let next = start-le (version bytes) (rows bytes) (suc s) 6 h in
+      let bits = whole-bytes k in
+      let more = mul-le-mul-right (size k) l in
+      let here : a ≡ 8 * start (version bytes) (rows bytes) s + i * total (widths k) = omega (arith, ap (λ (n : ℕ). i * n) bits) in
+      row-there bytes a k (room-yes (length bytes) a (widths k) short (omega arith)) ∙ ap (λ (b : ℕ). readAll bytes b (widths k)) here
 
   -- ---- the records
   length-record : (s i : ℕ) → length (recordOf bytes s i) ≡ listed s
   unfolding recordOf
   length-record s i =
-      length-take-le (listed s) (converted Reading (layout s) (row bytes s i))
-      (omega (arith, length-converted Reading (layout s) (row bytes s i), listed-fields s .0))
+      let k = kindIn bytes s in
+      length-take-le (listed s) (converted Reading (layout k) (row bytes s i))
+      (omega (arith, length-converted Reading (layout k) (row bytes s i), listed-fields k .0, listed-same (version bytes) s))
 
   pub length-records : (s n : ℕ) → length (records bytes s n) ≡ n * listed s
   unfolding records

@@ -19,7 +19,7 @@ use Rattle.network.specs.declared.Hop.{Hop}
 use Rattle.network.specs.declared.Parent.{Parent}
 use Rattle.network.specs.declared.Parent.the-variants.{Root, After}
 use Rattle.network.specs.Network.{Network}
-use Rattle.table.specs.Write.{Lists, listFor, recordsIn}
+use Rattle.table.specs.Lists.{Lists, listFor, recordsIn, headerAt}
 
 -- the number of the field of this name, of record i of a section's list
 unfoldable pub numberAt : Lists → ℕ → ℕ → Name → ℕ
@@ -70,10 +70,10 @@ hopIn ls i = record { vl = numberAt ls 5 i name.Vl; port = numberAt ls 5 i name.
 unfoldable pub networkAt : TickRules → Lists → Network
 networkAt tick ls = record {
   tick = tick;
-  sendLeast = tick .perUnit * getD (ls .delays) 0 0;
-  sendGreatest = tick .perUnit * getD (ls .delays) 1 0;
-  receiveLeast = tick .perUnit * getD (ls .delays) 2 0;
-  receiveGreatest = tick .perUnit * getD (ls .delays) 3 0;
+  sendLeast = tick .perUnit * headerAt ls name.SendLeast;
+  sendGreatest = tick .perUnit * headerAt ls name.SendGreatest;
+  receiveLeast = tick .perUnit * headerAt ls name.ReceiveLeast;
+  receiveGreatest = tick .perUnit * headerAt ls name.ReceiveGreatest;
   systems = tabulate (systemIn tick ls) (recordsIn ls 1);
   vls = tabulate (vlIn tick ls) (recordsIn ls 2);
   streams = tabulate (streamIn tick ls) (recordsIn ls 3);

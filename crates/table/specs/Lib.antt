@@ -1,5 +1,6 @@
 pub mod Answers
 pub mod Sections
+pub mod Lists
 pub mod Unpack
 pub mod Write
 pub mod RoundTrip

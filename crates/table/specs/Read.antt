@@ -11,7 +11,7 @@ use Rattle.table.specs.declared.Answer.{Answer}
 use Rattle.table.specs.Answers.{answer, firstGiven}
 use Rattle.table.specs.Unpack.{answer1, answer2, answer3, answer4}
 use Rattle.table.specs.Decoded.{networkOf}
-use Rattle.table.specs.RoundTrip.{unpacked}
+use Rattle.table.specs.Lists.{unpacked}
 
 -- the network that a table describes
 unfoldable pub networkIn : List ℕ → Network

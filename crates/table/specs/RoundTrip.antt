@@ -6,24 +6,13 @@ use mathlib.Core.Path.{_≡_}
 use lib.ListN.{length}
 use Rattle.bits.specs.Bits.{Bytes}
 use Rattle.table.specs.Answers.{accepted}
-use Rattle.table.specs.Sections.{rows, records}
-use Rattle.table.specs.Unpack.{Lengths, unpackAnswer, delaysOf}
-use Rattle.table.specs.Write.{Lists, writeAnswer, packed}
-
--- the lists that an accepted table unpacks to
-unfoldable pub unpacked : List ℕ → Lists
-unpacked bytes = record {
-  delays = delaysOf bytes;
-  systems = records bytes 1 (rows bytes 1);
-  vls = records bytes 2 (rows bytes 2);
-  streams = records bytes 3 (rows bytes 3);
-  ports = records bytes 4 (rows bytes 4);
-  hops = records bytes 5 (rows bytes 5);
-}
+use Rattle.table.specs.Lists.{Lists, unpacked}
+use Rattle.table.specs.Unpack.{Lengths, unpackAnswer}
+use Rattle.table.specs.Write.{writeAnswer, packed}
 
 -- lent lists of n numbers are long enough for these
 pub record RoomFor (ls : Lists) (n : Lengths) : Type 0 where
-  pub delays : length (ls .delays) ≤ n .delays
+  pub header : length (ls .header) ≤ n .header
   pub systems : length (ls .systems) ≤ n .systems
   pub vls : length (ls .vls) ≤ n .vls
   pub streams : length (ls .streams) ≤ n .streams

@@ -6,17 +6,18 @@ use mathlib.Core.List.{List, [], _∷_}
 use mathlib.Core.Option.{Option, none, some}
 use mathlib.Core.Path.{_≡_}
 use lib.Dec.{leb, ltb, eqb}
-use lib.ListN.{length, take, drop, replicate}
+use lib.ListN.{length, replicate}
 use Rattle.base.specs.Pick.{pick}
 use Rattle.base.specs.Least.{leastFrom}
 use Rattle.layout.specs.declared.Way.the-variants.{Reading}
-use Rattle.layout.specs.Layout.{layout}
+use Rattle.layout.specs.Layout.{headerNames}
 use Rattle.base.specs.Tests.{isSome, numberOr0}
-use Rattle.layout.specs.Rows.{converted, listed, rowFault}
+use Rattle.layout.specs.Rows.{listed, rowFault}
 use Rattle.table.specs.declared.Answer.{Answer}
 use Rattle.table.specs.declared.Unpacked.{Unpacked}
 use Rattle.table.specs.Answers.{answer, firstGiven}
-use Rattle.table.specs.Sections.{headerRow, rows, from, row, records, lent}
+use Rattle.table.specs.Sections.{headerRow, kindIn, rows, from, row, records, lent}
+use Rattle.table.specs.Lists.{headerOf}
 
 -- "1: fewer than 14 bytes"
 unfoldable pub answer1 : List ℕ → Option Answer
@@ -32,20 +33,20 @@ answer3 bytes = pick (eqb (length bytes) (from bytes 6)) none (some (answer 3 0 
 
 -- "4: a record's field or padding out of range": the first bad row of a section, and of the lowest section that has one
 unfoldable pub badRow : List ℕ → ℕ → Option ℕ
-badRow bytes section = leastFrom (λ i. isSome (rowFault Reading section (row bytes section i))) 0 (rows bytes section)
+badRow bytes section = leastFrom (λ i. isSome (rowFault Reading (kindIn bytes section) (row bytes section i))) 0 (rows bytes section)
 
 unfoldable pub badSection : List ℕ → Option ℕ
 badSection bytes = leastFrom (λ s. isSome (badRow bytes s)) 1 5
 
 unfoldable pub answerAtRow : List ℕ → ℕ → ℕ → Answer
-answerAtRow bytes section i = answer 4 section i (numberOr0 (rowFault Reading section (row bytes section i)))
+answerAtRow bytes section i = answer 4 section i (numberOr0 (rowFault Reading (kindIn bytes section) (row bytes section i)))
 
 unfoldable pub answer4 : List ℕ → Option Answer
 answer4 bytes = elim (badSection bytes) [ none ↦ none | some s ↦ some (answerAtRow bytes s (numberOr0 (badRow bytes s))) ]
 
 -- the lengths of the six lent lists
 pub record Lengths : Type 0 where
-  pub delays : ℕ
+  pub header : ℕ
   pub systems : ℕ
   pub vls : ℕ
   pub streams : ℕ
@@ -60,7 +61,7 @@ needs bytes section = rows bytes section * listed section
 unfoldable pub answer11 : List ℕ → Lengths → Option Answer
 answer11 bytes n =
     pick
-    (leb 4 (n .delays) && (leb (needs bytes 1) (n .systems) && (leb (needs bytes 2) (n .vls)
+    (leb (length headerNames) (n .header) && (leb (needs bytes 1) (n .systems) && (leb (needs bytes 2) (n .vls)
     && (leb (needs bytes 3) (n .streams) && (leb (needs bytes 4) (n .ports) && leb (needs bytes 5) (n .hops))))))
     none (some (answer 11 0 0 0))
 
@@ -69,10 +70,6 @@ unpackAnswer bytes n = firstGiven (answer1 bytes ∷ answer2 bytes ∷ answer3 b
 
 unfoldable pub unpacks : List ℕ → Lengths → Bool
 unpacks bytes n = eqb (unpackAnswer bytes n .number) 0
-
--- the delays of the header: send least and greatest, receive least and greatest
-unfoldable pub delaysOf : List ℕ → List ℕ
-delaysOf bytes = take 4 (drop 6 (converted Reading (layout 0) (headerRow bytes)))
 
 -- "Each refusal leaves every lent result all zero; an acceptance leaves zero after what it wrote."
 unfoldable pub left : Bool → ℕ → List ℕ → List ℕ
@@ -83,14 +80,14 @@ unfoldable pub taken : Bool → List ℕ → ℕ → ℕ
 taken ok bytes section = pick ok (rows bytes section) 0
 
 -- what the unpacker promises: its answer, the records that it wrote of each section, and what each lent list holds at the end
-pub record Unpacks (bytes : List ℕ) (n : Lengths) (r : Unpacked) (delays systems vls streams ports hops : List ℕ) : Type 0 where
+pub record Unpacks (bytes : List ℕ) (n : Lengths) (r : Unpacked) (header systems vls streams ports hops : List ℕ) : Type 0 where
   pub answer : r .answer ≡ unpackAnswer bytes n
   pub systems-count : r .systems ≡ taken (unpacks bytes n) bytes 1
   pub vls-count : r .vls ≡ taken (unpacks bytes n) bytes 2
   pub streams-count : r .streams ≡ taken (unpacks bytes n) bytes 3
   pub ports-count : r .ports ≡ taken (unpacks bytes n) bytes 4
   pub hops-count : r .hops ≡ taken (unpacks bytes n) bytes 5
-  pub delays-left : delays ≡ left (unpacks bytes n) (n .delays) (delaysOf bytes)
+  pub header-left : header ≡ left (unpacks bytes n) (n .header) (headerOf bytes)
   pub systems-left : systems ≡ left (unpacks bytes n) (n .systems) (records bytes 1 (rows bytes 1))
   pub vls-left : vls ≡ left (unpacks bytes n) (n .vls) (records bytes 2 (rows bytes 2))
   pub streams-left : streams ≡ left (unpacks bytes n) (n .streams) (records bytes 3 (rows bytes 3))

@@ -1,60 +1,56 @@
 -- 01, Answers by number: "The writer takes its counts from its lists and gives 2 (also for a list that is no whole number of records),
 -- 4 (also for a value wider than its field), 11." And what it leaves in the lent bytes. Assumes nothing.
-use Prim.Native.Nat.{ℕ, zero, suc, _+_, _-_, _*_, _/_, _%_}
+use Prim.Native.Nat.{ℕ, zero, suc, _+_, _-_, _*_, _%_}
 use mathlib.Core.Bool.{Bool, _&&_}
 use mathlib.Core.List.{List, [], _∷_, _++_}
 use mathlib.Core.Option.{Option, none, some}
 use mathlib.Core.Path.{_≡_}
 use lib.Dec.{leb, eqb}
-use lib.ListN.{length, getD, take, drop, replicate}
+use lib.ListN.{length, take, drop, replicate}
 use Rattle.base.specs.Pick.{pick}
 use Rattle.base.specs.Least.{leastFrom}
 use Rattle.bits.specs.Rows.{Section, putTable}
 use Rattle.layout.specs.declared.Way.the-variants.{Writing}
-use Rattle.layout.specs.Layout.{layout, widths, size}
+use Rattle.layout.specs.declared.Name.the-variants as name
+use Rattle.layout.specs.Layout.{layout, headerNames, widths, size}
 use Rattle.base.specs.Tests.{isSome, numberOr0}
 use Rattle.layout.specs.Rows.{converted, listed, rowFault}
 use Rattle.table.specs.declared.Answer.{Answer}
 use Rattle.table.specs.declared.Written.{Written}
 use Rattle.table.specs.Answers.{answer, firstGiven}
 use Rattle.table.specs.Sections.{lent}
+use Rattle.table.specs.Lists.{Lists, listFor, recordsIn, headerAt, kindFor}
 
--- the lists that a table is written from, and that it is unpacked to
-pub record Lists : Type 0 where
-  pub delays : List ℕ
-  pub systems : List ℕ
-  pub vls : List ℕ
-  pub streams : List ℕ
-  pub ports : List ℕ
-  pub hops : List ℕ
-
--- the list of a section
-unfoldable pub listFor : Lists → ℕ → List ℕ
-listFor ls section = getD ([] ∷ ls .systems ∷ ls .vls ∷ ls .streams ∷ ls .ports ∷ ls .hops ∷ []) section []
-
--- "takes its counts from its lists"
-unfoldable pub recordsIn : Lists → ℕ → ℕ
-recordsIn ls section = length (listFor ls section) / listed section
-
--- the header that the lists ask for: version 1, the counts, the delays, and padding
+-- the header that the lists ask for: the version, the counts, the delays, and padding
 unfoldable pub headerFor : Lists → List ℕ
 headerFor ls =
-    1 ∷ recordsIn ls 1 ∷ recordsIn ls 2 ∷ recordsIn ls 3 ∷ recordsIn ls 4 ∷ recordsIn ls 5 ∷ (ls .delays ++ (0 ∷ []))
+    headerAt ls name.Version
+    ∷ recordsIn ls 1
+    ∷ recordsIn ls 2
+    ∷ recordsIn ls 3
+    ∷ recordsIn ls 4
+    ∷ recordsIn ls 5
+    ∷ headerAt ls name.SendLeast
+    ∷ headerAt ls name.SendGreatest
+    ∷ headerAt ls name.ReceiveLeast
+    ∷ headerAt ls name.ReceiveGreatest
+    ∷ 0
+    ∷ []
 
 -- record i of a section, with padding of zero where it has padding
 unfoldable pub meantRow : Lists → ℕ → ℕ → List ℕ
 meantRow ls section i =
-    take (listed section) (drop (i * listed section) (listFor ls section)) ++ replicate (length (layout section) - listed section) 0
+    take (listed section) (drop (i * listed section) (listFor ls section)) ++ replicate (length (layout (kindFor ls section)) - listed section) 0
 
--- every list is a whole number of records: four delays, and for a section a multiple of its numbers (an end
+-- every list is a whole number of records: five numbers of the header, and for a section a multiple of its numbers (an end
 -- system is one number, so any list of them is whole)
 unfoldable pub whole : Lists → Bool
 whole ls =
-    eqb (length (ls .delays)) 4
+    eqb (length (ls .header)) (length headerNames)
     && (eqb (length (ls .vls) % listed 2) 0 && (eqb (length (ls .streams) % listed 3) 0
     && (eqb (length (ls .ports) % listed 4) 0 && eqb (length (ls .hops) % listed 5) 0)))
 
--- 2: a list that is no whole number of records, a count or a delay out of range
+-- 2: a list that is no whole number of records, a version, count or delay out of range
 unfoldable pub write2 : Lists → Option Answer
 write2 ls =
     pick (whole ls)
@@ -63,13 +59,13 @@ write2 ls =
 
 -- 4: a value that is out of range, or wider than its field
 unfoldable pub badRecord : Lists → ℕ → Option ℕ
-badRecord ls section = leastFrom (λ i. isSome (rowFault Writing section (meantRow ls section i))) 0 (recordsIn ls section)
+badRecord ls section = leastFrom (λ i. isSome (rowFault Writing (kindFor ls section) (meantRow ls section i))) 0 (recordsIn ls section)
 
 unfoldable pub badList : Lists → Option ℕ
 badList ls = leastFrom (λ s. isSome (badRecord ls s)) 1 5
 
 unfoldable pub answerAtRecord : Lists → ℕ → ℕ → Answer
-answerAtRecord ls section i = answer 4 section i (numberOr0 (rowFault Writing section (meantRow ls section i)))
+answerAtRecord ls section i = answer 4 section i (numberOr0 (rowFault Writing (kindFor ls section) (meantRow ls section i)))
 
 unfoldable pub write4 : Lists → Option Answer
 write4 ls = elim (badList ls) [ none ↦ none | some s ↦ some (answerAtRecord ls s (numberOr0 (badRecord ls s))) ]
@@ -77,11 +73,11 @@ write4 ls = elim (badList ls) [ none ↦ none | some s ↦ some (answerAtRecord 
 -- the rows of a section as they are stored
 unfoldable pub storedRows : Lists → ℕ → ℕ → List (List ℕ)
 storedRows ls section zero = []
-storedRows ls section (suc n) = storedRows ls section n ++ (converted Writing (layout section) (meantRow ls section n) ∷ [])
+storedRows ls section (suc n) = storedRows ls section n ++ (converted Writing (layout (kindFor ls section)) (meantRow ls section n) ∷ [])
 
 -- the sections of the table: the header's one row, and the rows of each list
 unfoldable pub sectionOf : Lists → ℕ → Section
-sectionOf ls section = record { widths = widths section; count = recordsIn ls section }
+sectionOf ls section = record { widths = widths (kindFor ls section); count = recordsIn ls section }
 
 unfoldable pub sections : Lists → List Section
 sections ls =
@@ -100,7 +96,12 @@ parts ls =
 -- the bytes that the table takes
 unfoldable pub tableSize : Lists → ℕ
 tableSize ls =
-    size 0 + recordsIn ls 1 * size 1 + recordsIn ls 2 * size 2 + recordsIn ls 3 * size 3 + recordsIn ls 4 * size 4 + recordsIn ls 5 * size 5
+    size 0
+    + recordsIn ls 1 * size (kindFor ls 1)
+    + recordsIn ls 2 * size (kindFor ls 2)
+    + recordsIn ls 3 * size (kindFor ls 3)
+    + recordsIn ls 4 * size (kindFor ls 4)
+    + recordsIn ls 5 * size (kindFor ls 5)
 
 -- the table's bytes
 unfoldable pub packed : Lists → List ℕ

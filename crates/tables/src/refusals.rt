@@ -6,7 +6,7 @@ use crate::print::hex;
 use crate::print::number;
 use crate::print::numbers;
 use crate::print::text;
-use crate::whole::DELAYS;
+use crate::whole::HEADER;
 use crate::whole::SYSTEMS;
 use crate::whole::unpack;
 use crate::whole::whole_case;
@@ -16,10 +16,10 @@ const VL: [u64; 4] = [0, 2, 1, 516];
 const HOP: [u64; 3] = [0, 0, 0];
 
 fn write_to(vls: &[u64], hops: &[u64], out: &mut [u8]) {
-    let delays = DELAYS;
+    let header = HEADER;
     let systems = SYSTEMS;
     let none = [0u64; 0];
-    let w = writer::write(&delays, &systems, vls, &none, &none, hops, out);
+    let w = writer::write(&header, &systems, vls, &none, &none, hops, out);
     answer(w.answer);
     number(w.length as u64);
     text(b" ");

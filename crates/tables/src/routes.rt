@@ -2,7 +2,7 @@
 // An end system has no VL and a port no hop, and both are accepted.
 ghost use Prim.Native.Nat.{_≤_};
 use crate::print::text;
-use crate::whole::DELAYS;
+use crate::whole::HEADER;
 use crate::whole::first_bytes;
 
 const NONE: [u64; 10] = [0; 10];
@@ -27,13 +27,13 @@ fn records(firsts: [u64; 10], others: [u64; 10]) -> [u64; 30] {
 }
 
 fn routed(hops: &[u64]) {
-    let delays = DELAYS;
+    let header = HEADER;
     let systems = [100u64, 10];
     let vls = [1u64, 128, 4, 64];
     let ports = records(SPEEDS, NONE);
     let none = [0u64; 0];
     let mut out = [0u8; 100];
-    let w = writer::write(&delays, &systems, &vls, &none, &ports, hops, &mut out);
+    let w = writer::write(&header, &systems, &vls, &none, &ports, hops, &mut out);
     first_bytes(&out, w.length);
 }
 

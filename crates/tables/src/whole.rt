@@ -6,7 +6,7 @@ use crate::print::numbers;
 use crate::print::text;
 use table::Answer;
 
-pub const DELAYS: [u64; 4] = [500, 1_000, 500, 500];
+pub const HEADER: [u64; 5] = [1, 500, 1_000, 500, 500];
 
 pub const SYSTEMS: [u64; 1] = [100];
 
@@ -34,13 +34,13 @@ const PORTS: [u64; 3] = [100, 875, 1_250];
 const HOPS: [u64; 6] = [0, 0, 0, 1, 0, 0];
 
 pub fn write_whole(out: &mut [u8]) {
-    let delays = DELAYS;
+    let header = HEADER;
     let systems = SYSTEMS;
     let vls = VLS;
     let streams = STREAMS;
     let ports = PORTS;
     let hops = HOPS;
-    writer::write(&delays, &systems, &vls, &streams, &ports, &hops, out);
+    writer::write(&header, &systems, &vls, &streams, &ports, &hops, out);
 }
 
 pub fn whole_case() -> [u8; 59] {
@@ -59,7 +59,7 @@ pub fn first_bytes(bytes: &[u8], n: usize) {
 // The lists of a table, but for its hops, and the unpacker's answer.
 pub struct Lists {
     pub answer: Answer,
-    pub delays: [u64; 4],
+    pub header: [u64; 5],
     pub systems: [u64; 2],
     pub vls: [u64; 9],
     pub streams: [u64; 14],
@@ -67,14 +67,14 @@ pub struct Lists {
 }
 
 pub fn unpack(bytes: &[u8], hops: &mut [u64]) -> Lists {
-    let mut delays = [9u64; 4];
+    let mut header = [9u64; 5];
     let mut systems = [9u64; 2];
     let mut vls = [9u64; 9];
     let mut streams = [9u64; 14];
     let mut ports = [9u64; 3];
     let u = unpacker::unpack(
         bytes,
-        &mut delays,
+        &mut header,
         &mut systems,
         &mut vls,
         &mut streams,
@@ -84,7 +84,7 @@ pub fn unpack(bytes: &[u8], hops: &mut [u64]) -> Lists {
     let a = u.answer;
     Lists {
         answer: a,
-        delays,
+        header,
         systems,
         vls,
         streams,
@@ -96,7 +96,7 @@ pub fn unpacked(bytes: &[u8]) {
     let mut hops = [9u64; 6];
     let lists = unpack(bytes, &mut hops);
     answer(lists.answer);
-    numbers(&lists.delays);
+    numbers(&lists.header);
     numbers(&lists.systems);
     numbers(&lists.vls);
     numbers(&lists.streams);
@@ -106,11 +106,11 @@ pub fn unpacked(bytes: &[u8]) {
 
 // The bytes of a VL record, in a table of one end system and one VL.
 fn record(vl: &[u64]) {
-    let delays = DELAYS;
+    let header = HEADER;
     let systems = SYSTEMS;
     let none = [0u64; 0];
     let mut out = [0u8; 18];
-    let w = writer::write(&delays, &systems, vl, &none, &none, &none, &mut out);
+    let w = writer::write(&header, &systems, vl, &none, &none, &none, &mut out);
     answer(w.answer);
     hex(&out[15..18]);
 }

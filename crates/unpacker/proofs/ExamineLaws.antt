@@ -20,7 +20,7 @@ use Rattle.layout.proofs.FaultLaws.{fault-wide}
 use Rattle.layout.proofs.ReadLaws.{some-number, no-number, test-given, nothing-given}
 use Rattle.table.specs.declared.Answer.{Answer}
 use Rattle.table.specs.Answers.{answer, accepted, firstGiven}
-use Rattle.table.specs.Sections.{headerRow, rows, from, row}
+use Rattle.table.specs.Sections.{headerRow, kindIn, rows, from, row}
 use Rattle.table.specs.Unpack.{answer1, answer2, answer3, answer4, badRow, badSection, answerAtRow}
 use Rattle.unpacker.specs.Unpacking.{answerOf, answerIn, lastAnswer, tableAnswer}
 
@@ -28,7 +28,7 @@ module _ (bytes : List ℕ) where
   -- ---- a row
   module _ (s i : ℕ) where
     abbrev fault : Option ℕ
-    fault = rowFault Reading s (row bytes s i)
+    fault = rowFault Reading (kindIn bytes s) (row bytes s i)
 
     row-bad : (test : ℕ) → fault ≡ some test → answer 4 s i test ≡ answerOf bytes s i
     unfolding answerOf
@@ -38,9 +38,14 @@ module _ (bytes : List ℕ) where
     unfolding answerOf
     row-good e = rw (e, answerOf)
 
-    module _ (raw : List ℕ) (x : Fault) (is : raw ≡ wide (row bytes s i)) (told : faultOf x ≡ rowFault Reading s raw) where
+    module _ (raw : List ℕ) (k : ℕ) (x : Fault) (is : raw ≡ wide (row bytes s i)) (of-kind : k ≡ kindIn bytes s) (told : faultOf x ≡ rowFault Reading k raw) where
       fault-told : fault ≡ faultOf x
-      fault-told = sym (told ∙ ap (rowFault Reading s) is ∙ fault-wide Reading s (row bytes s i))
+      fault-told =
+          sym
+          (told
+          ∙ ap (λ (m : ℕ). rowFault Reading m raw) of-kind
+          ∙ ap (rowFault Reading (kindIn bytes s)) is
+          ∙ fault-wide Reading (kindIn bytes s) (row bytes s i))
 
       pub test-told : (test : ℕ) → x ≡ Test test → answer 4 s i test ≡ answerOf bytes s i
       test-told test e = row-bad test (fault-told ∙ test-given x test e)
@@ -60,29 +65,29 @@ module _ (bytes : List ℕ) where
   module _ (s : ℕ) where
     -- the first i rows have no fault
     abbrev pub GoodTo : ℕ → Type 0
-    GoodTo i = (j : ℕ) → j < i → rowFault Reading s (row bytes s j) ≡ none
+    GoodTo i = (j : ℕ) → j < i → rowFault Reading (kindIn bytes s) (row bytes s j) ≡ none
 
     pub good-more : (i : ℕ) → GoodTo i → answerOf bytes s i .number ≡ 0 → GoodTo (i + 1)
     good-more i good e j h = ⊎-elim (λ (same : j ≡ i). rw same (row-was s i e)) (λ (l : j < i). good j l) (eq-or-lt-of-le (omega arith))
 
     pub section-bad : (i : ℕ) → i < rows bytes s → GoodTo i → (answerOf bytes s i .number ≡ 0 → ⊥) → answerOf bytes s i ≡ answerIn bytes s
     unfolding answerIn badRow answerAtRow
-    section-bad i h good some-is = go (rowFault Reading s (row bytes s i)) refl
+    section-bad i h good some-is = go (rowFault Reading (kindIn bytes s) (row bytes s i)) refl
       where
-        go : (o : Option ℕ) → rowFault Reading s (row bytes s i) ≡ o → answerOf bytes s i ≡ answerIn bytes s
+        go : (o : Option ℕ) → rowFault Reading (kindIn bytes s) (row bytes s i) ≡ o → answerOf bytes s i ≡ answerIn bytes s
         go none e = absurd (some-is (ap (λ (a : Answer). a .number) (sym (row-good s i e))))
         go (some test) e =
-            let was = some-number (rowFault Reading s (row bytes s i)) test e in
+            let was = some-number (rowFault Reading (kindIn bytes s) (row bytes s i)) test e in
             let first : badRow bytes s ≡ some i =
-            least-is (λ i. isSome (rowFault Reading s (row bytes s i))) 0 (rows bytes s) i (omega arith) (omega arith) (was .0)
-            (λ j _ l. no-number (rowFault Reading s (row bytes s j)) (good j l)) in
+            least-is (λ i. isSome (rowFault Reading (kindIn bytes s) (row bytes s i))) 0 (rows bytes s) i (omega arith) (omega arith) (was .0)
+            (λ j _ l. no-number (rowFault Reading (kindIn bytes s) (row bytes s j)) (good j l)) in
             sym (row-bad s i test e) ∙ sym (rw (first, answerIn) (ap (answer 4 s i) (was .1)))
 
     section-clean : GoodTo (rows bytes s) → badRow bytes s ≡ none
     unfolding badRow
     section-clean good =
-        least-none (λ i. isSome (rowFault Reading s (row bytes s i))) 0 (rows bytes s)
-        (λ j _ l. no-number (rowFault Reading s (row bytes s j)) (good j (omega arith)))
+        least-none (λ i. isSome (rowFault Reading (kindIn bytes s) (row bytes s i))) 0 (rows bytes s)
+        (λ j _ l. no-number (rowFault Reading (kindIn bytes s) (row bytes s j)) (good j (omega arith)))
 
     pub section-good : GoodTo (rows bytes s) → accepted ≡ answerIn bytes s
     unfolding answerIn

@@ -14,16 +14,18 @@ use Rattle.base.specs.Tabulate.{tabulate}
 use Rattle.base.proofs.TabulateLaws.{tabulate-at}
 use Rattle.layout.specs.declared.Way.the-variants.{Reading}
 use Rattle.base.specs.Tests.{numberOr0}
+use Rattle.layout.specs.Layout.{headerNames}
 use Rattle.layout.specs.Contracts.{wide}
 use Rattle.layout.specs.Rows.{listed, rowFault}
 use Rattle.table.specs.declared.Answer.{Answer}
 use Rattle.table.specs.Answers.{answer, firstGiven}
 use Rattle.table.specs.Sections.{headerRow, rows, from, records, lent}
-use Rattle.table.specs.Unpack.{answer1, answer2, answer3, answer4, answerAtRow, badRow, badSection, needs, answer11, unpackAnswer, unpacks, delaysOf, left, taken}
-use Rattle.unpacker.specs.Unpacking.{tableAnswer, holdsIn, roomIn, judgedAnswer, lengthsIn, delaysIn}
+use Rattle.table.specs.Unpack.{answer1, answer2, answer3, answer4, answerAtRow, badRow, badSection, needs, answer11, unpackAnswer, unpacks, left, taken}
+use Rattle.table.specs.Lists.{headerOf}
+use Rattle.unpacker.specs.Unpacking.{tableAnswer, holdsIn, roomIn, judgedAnswer, lengthsIn, headerTaken}
 use Rattle.table.proofs.LentLaws.{lent-none}
 use Rattle.table.proofs.SectionLaws.{rows-few}
-use Rattle.unpacker.proofs.ListLaws.{delays-are, no-delays}
+use Rattle.unpacker.proofs.ListLaws.{header-taken, no-header}
 
 -- ---- the answer
 -- each refusal that is given has a number
@@ -70,17 +72,17 @@ right-hand true false c d e f = refl
 right-hand false b c d e f = refl
 
 room-was : (counts lengths : List ℕ) → roomIn counts lengths ≡ true
-    → (4 ≤ getD lengths 0 0) × ((s : ℕ) → 1 ≤ s → s < 6 → getD counts s 0 * listed s ≤ getD lengths s 0)
+    → (length headerNames ≤ getD lengths 0 0) × ((s : ℕ) → 1 ≤ s → s < 6 → getD counts s 0 * listed s ≤ getD lengths s 0)
 unfolding roomIn holdsIn
 room-was counts lengths e =
     let holds : ℕ → Bool = λ s. leb (getD counts s 0 * listed s) (getD lengths s 0) in
-    let e0 = rw (right-hand (leb 4 (getD lengths 0 0)) (holds 1) (holds 2) (holds 3) (holds 4) (holds 5)) at e in
-    let e1 = and-eq-true-iff (leb 4 (getD lengths 0 0)) (holds 1 && (holds 2 && (holds 3 && (holds 4 && holds 5)))) .0 e0 in
+    let e0 = rw (right-hand (leb (length headerNames) (getD lengths 0 0)) (holds 1) (holds 2) (holds 3) (holds 4) (holds 5)) at e in
+    let e1 = and-eq-true-iff (leb (length headerNames) (getD lengths 0 0)) (holds 1 && (holds 2 && (holds 3 && (holds 4 && holds 5)))) .0 e0 in
     let e2 = and-eq-true-iff (holds 1) (holds 2 && (holds 3 && (holds 4 && holds 5))) .0 (e1 .1) in
     let e3 = and-eq-true-iff (holds 2) (holds 3 && (holds 4 && holds 5)) .0 (e2 .1) in
     let e4 = and-eq-true-iff (holds 3) (holds 4 && holds 5) .0 (e3 .1) in
     let e5 = and-eq-true-iff (holds 4) (holds 5) .0 (e4 .1) in
-    (leb-true 4 (getD lengths 0 0) (e1 .0), by-section (leb-true _ _ (e2 .0)) (leb-true _ _ (e3 .0)) (leb-true _ _ (e4 .0)) (leb-true _ _ (e5 .0)) (leb-true _ _ (e5 .1)))
+    (leb-true (length headerNames) (getD lengths 0 0) (e1 .0), by-section (leb-true _ _ (e2 .0)) (leb-true _ _ (e3 .0)) (leb-true _ _ (e4 .0)) (leb-true _ _ (e5 .0)) (leb-true _ _ (e5 .1)))
   where
     Holds : ℕ → Type 0
     Holds s = getD counts s 0 * listed s ≤ getD lengths s 0
@@ -114,7 +116,7 @@ module _ (bytes : List ℕ) where
     unfolding answer11 needs roomIn holdsIn lengthsIn tabulate
     room-is =
         let holds : ℕ → Bool = λ s. leb (rows bytes s * listed s) (getD lengths s 0) in
-        ap (λ (t : Bool). pick t none (some (answer 11 0 0 0))) (sym (right-hand (leb 4 (getD lengths 0 0)) (holds 1) (holds 2) (holds 3) (holds 4) (holds 5)))
+        ap (λ (t : Bool). pick t none (some (answer 11 0 0 0))) (sym (right-hand (leb (length headerNames) (getD lengths 0 0)) (holds 1) (holds 2) (holds 3) (holds 4) (holds 5)))
 
     pub judged-is : judgedAnswer (tableAnswer bytes) room ≡ unpackAnswer bytes (lengthsIn lengths)
     unfolding unpackAnswer tableAnswer
@@ -148,11 +150,11 @@ module _ (bytes : List ℕ) where
     unfolding unpacks
     accepted-room e = passed (tableAnswer bytes) room (rw judged-is e)
 
-    pub delays-fit : getD counts 0 0 * 4 ≤ getD lengths 0 0
+    pub header-fits : getD counts 0 0 * length headerNames ≤ getD lengths 0 0
     unfolding taken rows
-    delays-fit = rw (count-at 0 (omega arith)) (go ok refl)
+    header-fits = rw (count-at 0 (omega arith)) (go ok refl)
       where
-        go : (t : Bool) → ok ≡ t → pick t 1 0 * 4 ≤ getD lengths 0 0
+        go : (t : Bool) → ok ≡ t → pick t 1 0 * length headerNames ≤ getD lengths 0 0
         go true e = omega (arith, room-was (tabulate (rows bytes) 6) lengths (accepted-room e) .0)
         go false e = omega arith
 
@@ -173,10 +175,10 @@ module _ (bytes : List ℕ) where
         go true = refl
         go false = lent-none n
 
-    pub delays-left : (n : ℕ) → lent n (delaysIn (wide (headerRow bytes)) (getD counts 0 0)) ≡ left ok n (delaysOf bytes)
+    pub header-left : (n : ℕ) → lent n (headerTaken (wide (headerRow bytes)) (getD counts 0 0)) ≡ left ok n (headerOf bytes)
     unfolding taken left rows
-    delays-left n = rw (count-at 0 (omega arith)) (go ok)
+    header-left n = rw (count-at 0 (omega arith)) (go ok)
       where
-        go : (t : Bool) → lent n (delaysIn (wide (headerRow bytes)) (pick t 1 0)) ≡ pick t (lent n (delaysOf bytes)) (replicate n 0)
-        go true = ap (lent n) (delays-are bytes 1 (omega arith))
-        go false = ap (lent n) (no-delays (wide (headerRow bytes)) 0 refl) ∙ lent-none n
+        go : (t : Bool) → lent n (headerTaken (wide (headerRow bytes)) (pick t 1 0)) ≡ pick t (lent n (headerOf bytes)) (replicate n 0)
+        go true = ap (lent n) (header-taken bytes 1 (omega arith))
+        go false = ap (lent n) (no-header (wide (headerRow bytes)) 0 refl) ∙ lent-none n

@@ -1,4 +1,4 @@
--- The lists that the unpacker fills: what a run of stores leaves, one record more at a time behind those that are there, and the delays of the header row.
+-- The lists that the unpacker fills: what a run of stores leaves, one record more at a time behind those that are there, and the numbers of the header.
 -- Assumes nothing.
 use mathlib.Core.Path.{_≡_, refl, sym, ap, _∙_}
 use mathlib.Core.List.{List, [], _∷_, _++_, append-nil, append-assoc}
@@ -6,37 +6,33 @@ use Prim.Native.Nat.{ℕ, zero, suc, _+_, _*_, _≤_, _<_}
 use native.Mathlib.Nat.{mul-le-mul, mul-le-mul-right}
 use native.Mathlib.Numerals.{add-one}
 use native.Mathlib.Omega.{arith}
-use lib.ListN.{length, getD, take, drop, set, replicate, length-append, length-drop, length-replicate}
-use lib.Seq.{take-suc, length-take-le, getD-drop}
+use lib.ListN.{length, getD, take, set, replicate, length-append, length-replicate}
+use lib.Seq.{take-suc, length-take-le}
 use Rattle.layout.specs.declared.Way.the-variants.{Reading}
-use Rattle.layout.specs.Layout.{layout}
+use Rattle.layout.specs.Names.{numberOf, indexIn}
+use Rattle.layout.specs.Layout.{header as headerShapes, layoutIn, layout, kindOf, headerNames}
 use Rattle.layout.specs.Contracts.{wide}
-use Rattle.layout.specs.Rows.{converted, listed}
-use Rattle.layout.proofs.LayoutLaws.{listed-fields, few-fields, fields-are}
+use Rattle.layout.specs.Rows.{named, converted, listed}
+use Rattle.layout.proofs.LayoutLaws.{listed-fields, listed-same, few-fields}
 use Rattle.layout.proofs.ReadLaws.{part-wide}
-use Rattle.layout.proofs.RowLaws.{length-wide, length-converted, converted-wide}
-use Rattle.table.specs.Sections.{headerRow, row, recordOf, records, lent}
-use Rattle.table.specs.Unpack.{delaysOf}
-use Rattle.unpacker.specs.Unpacking.{Filling, Adding, written, delaysIn}
+use Rattle.layout.proofs.RowLaws.{wide-at, length-wide, take-wide, length-converted, converted-wide}
+use Rattle.table.specs.Sections.{headerRow, version, kindIn, row, recordOf, records, lent}
+use Rattle.table.specs.Lists.{headerOf}
+use Rattle.unpacker.specs.Unpacking.{Filling, Adding, written, headerIn, headerTaken}
 use Rattle.table.proofs.LentLaws.{lent-none, length-lent, lent-more}
 use Rattle.table.proofs.SectionLaws.{length-records}
 
 -- ---- a run of stores behind the numbers that the list holds adds numbers to them
-written-lent : (n : ℕ) (xs : List ℕ) (a first : ℕ) (row : List ℕ) (k : ℕ) → length xs ≡ a → a + k ≤ n → first + k ≤ length row
-    → written (lent n xs) a first row k ≡ lent n (xs ++ take k (drop first row))
+written-lent : (n : ℕ) (xs : List ℕ) (a : ℕ) (row : List ℕ) (k : ℕ) → length xs ≡ a → a + k ≤ n → k ≤ length row
+    → written (lent n xs) a row k ≡ lent n (xs ++ take k row)
 unfolding written
-written-lent n xs a first row zero e h l = ap (lent n) (sym (append-nil xs))
-written-lent n xs a first row (suc k) e h l =
-    let part = drop first row in
-    let m = length-drop first row in
-    let long = length-take-le k part (omega arith) in
-    let all = length-append xs (take k part) in
-    ap (λ (r : List ℕ). set r (a + k) (getD row (first + k) 0)) (written-lent n xs a first row k e (omega arith) (omega arith))
-    ∙ lent-more n (xs ++ take k part) (a + k) (getD row (first + k) 0) (omega arith) (omega arith)
-    ∙ ap (lent n)
-    (append-assoc xs (take k part) (getD row (first + k) 0 ∷ [])
-    ∙ ap (λ (r : List ℕ). xs ++ r)
-    (ap (λ (v : ℕ). take k part ++ (v ∷ [])) (sym (getD-drop first row k 0)) ∙ sym (take-suc part k 0 (omega arith))))
+written-lent n xs a row zero e h l = ap (lent n) (sym (append-nil xs))
+written-lent n xs a row (suc k) e h l =
+    let long = length-take-le k row (omega arith) in
+    let all = length-append xs (take k row) in
+    ap (λ (r : List ℕ). set r (a + k) (getD row k 0)) (written-lent n xs a row k e (omega arith) (omega arith))
+    ∙ lent-more n (xs ++ take k row) (a + k) (getD row k 0) (omega arith) (omega arith)
+    ∙ ap (lent n) (append-assoc xs (take k row) (getD row k 0 ∷ []) ∙ ap (λ (r : List ℕ). xs ++ r) (sym (take-suc row k 0 (omega arith))))
 
 -- ---- the numbers of i records
 pub numbers-most : (i s n : ℕ) → i < 4096 → n ≡ listed s → (i * n ≤ 45056) × (n ≤ 11)
@@ -54,29 +50,35 @@ module _ (bytes : List ℕ) (s : ℕ) where
   records-start out n e = e ∙ sym (lent-none n) ∙ ap (λ (m : ℕ). lent m []) (sym (cleared-length out n e))
 
   -- ---- one record more
-  records-more : (i n : ℕ) (raw vs : List ℕ) → raw ≡ wide (row bytes s i) → vs ≡ wide (converted Reading (layout s) raw) → (i + 1) * listed s ≤ n
-      → written (lent n (records bytes s i)) (i * listed s) 0 vs (listed s) ≡ lent n (records bytes s (i + 1))
+  abbrev k : ℕ
+  k = kindIn bytes s
+
+  records-more : (i n : ℕ) (raw vs : List ℕ) → raw ≡ wide (row bytes s i) → vs ≡ wide (converted Reading (layout k) raw) → (i + 1) * listed s ≤ n
+      → written (lent n (records bytes s i)) (i * listed s) vs (listed s) ≡ lent n (records bytes s (i + 1))
   unfolding records recordOf
   records-more i n raw vs e f h =
-      let meant = converted Reading (layout s) (row bytes s i) in
-      let long = length-converted Reading (layout s) (row bytes s i) in
+      let meant = converted Reading (layout k) (row bytes s i) in
+      let long = length-converted Reading (layout k) (row bytes s i) in
       let same : vs ≡ wide meant =
-      f ∙ ap (λ (r : List ℕ). wide (converted Reading (layout s) r)) e ∙ ap wide (converted-wide Reading (layout s) (row bytes s i)) in
-      let fits = listed-fields s .0 in
-      let few = few-fields s in
+      f ∙ ap (λ (r : List ℕ). wide (converted Reading (layout k) r)) e ∙ ap wide (converted-wide Reading (layout k) (row bytes s i)) in
+      let fits = listed-fields k .0 in
+      let numbers = listed-same (version bytes) s in
+      let few = few-fields k in
       let w = length-wide meant (omega arith) in
       rw (add-one i, same)
-      (written-lent n (records bytes s i) (i * listed s) 0 (wide meant) (listed s) (length-records bytes s i) (omega arith) (omega arith)
+      (written-lent n (records bytes s i) (i * listed s) (wide meant) (listed s) (length-records bytes s i) (omega arith) (omega arith)
       ∙ ap (λ (r : List ℕ). lent n (records bytes s i ++ r)) (part-wide meant 0 (listed s) (omega arith)))
 
-  pub record-added : (a i n : ℕ) (out raw vs : List ℕ) → Adding bytes s a i out → n ≡ listed s → raw ≡ wide (row bytes s i)
-      → vs ≡ wide (converted Reading (layout s) raw) → written out (i * n) 0 vs n ≡ lent (length out) (records bytes s (i + 1))
-  record-added a i n out raw vs p e f g =
+  pub record-added : (v a i m n : ℕ) (out raw vs : List ℕ) → Adding bytes v s a i out → m ≡ kindOf v s → n ≡ listed s → raw ≡ wide (row bytes s i)
+      → vs ≡ wide (converted Reading (layout m) raw) → written out (i * n) vs n ≡ lent (length out) (records bytes s (i + 1))
+  record-added v a i m n out raw vs p of-kind e f g =
+      let is : m ≡ k = of-kind ∙ ap (λ (w : ℕ). kindOf w s) (p .names) in
       rw e
-      (ap (λ (l : List ℕ). written l (i * listed s) 0 vs (listed s)) (p .has) ∙ records-more i (length out) raw vs f g (p .holds))
+      (ap (λ (l : List ℕ). written l (i * listed s) vs (listed s)) (p .has)
+      ∙ records-more i (length out) raw vs f (g ∙ ap (λ (x : ℕ). wide (converted Reading (layout x) raw)) is) (p .holds))
 
   -- ---- where the list was cleared and the first i records were put
-  module _ (a i n : ℕ) (entry cleared out : List ℕ) (p : Filling bytes s a n (length entry)) (zeros : cleared ≡ replicate (length entry) 0)
+  module _ (v a i n : ℕ) (entry cleared out : List ℕ) (p : Filling bytes v s a n (length entry)) (zeros : cleared ≡ replicate (length entry) 0)
       (same : length out ≡ length cleared) (h : i < n) where
     room : (i + 1) * listed s ≤ length out
     room =
@@ -84,8 +86,9 @@ module _ (bytes : List ℕ) (s : ℕ) where
         let more = mul-le-mul-right (listed s) h in
         omega (arith, cleared-length cleared (length entry) zeros)
 
-    pub adding : out ≡ lent (length cleared) (records bytes s i) → Adding bytes s a i out
+    pub adding : out ≡ lent (length cleared) (records bytes s i) → Adding bytes v s a i out
     adding e = record {
+      names = p .names;
       known = p .known;
       begins = p .begins;
       low = omega (arith, p .few);
@@ -98,24 +101,39 @@ module _ (bytes : List ℕ) (s : ℕ) where
     added next e =
         (ap length e ∙ length-lent (length out) (records bytes s (i + 1)) (omega (arith, room, length-records bytes s (i + 1))) ∙ same, rw (← same) e)
 
--- ---- the delays
-pub delays-put : (header vs out : List ℕ) (n m : ℕ) → out ≡ replicate n 0 → vs ≡ wide (converted Reading (layout 0) header) → 0 < m → 4 ≤ n
-    → written out 0 6 vs 4 ≡ lent n (delaysIn header m)
-unfolding delaysIn
-delays-put header vs out n zero z e l h = absurd (omega arith)
-delays-put header vs out n (suc m) z e l h =
-    let meant = converted Reading (layout 0) header in
-    let long = length-converted Reading (layout 0) header ∙ fields-are 0 in
-    let w = length-wide meant (omega arith) in
-    rw (z, e, ← (lent-none n))
-    (written-lent n [] 0 6 (wide meant) 4 refl (omega arith) (omega arith) ∙ ap (lent n) (part-wide meant 6 4 (omega arith)))
+-- ---- the header's numbers
+pub header-put : (header vs out : List ℕ) (n m : ℕ) → out ≡ replicate n 0 → vs ≡ wide (headerIn header) → 0 < m → length headerNames ≤ n
+    → written out 0 vs (length headerNames) ≡ lent n (headerTaken header m)
+unfolding headerTaken headerIn
+header-put header vs out n zero z e l h = absurd (omega arith)
+header-put header vs out n (suc m) z e l h =
+    let numbers = headerIn header in
+    let w = length-wide numbers (omega arith) in
+    rw (z, e, ← (lent-none n)) (written-lent n [] 0 (wide numbers) (length headerNames) refl (omega arith) (omega arith) ∙ ap (lent n) (take-wide numbers))
 
-pub no-delays : (header : List ℕ) (m : ℕ) → m ≡ 0 → delaysIn header m ≡ []
-unfolding delaysIn
-no-delays header m e = ap (delaysIn header) e
+pub no-header : (header : List ℕ) (m : ℕ) → m ≡ 0 → headerTaken header m ≡ []
+unfolding headerTaken
+no-header header m e = ap (headerTaken header) e
 
 -- of the table's own header row
-pub delays-are : (bytes : List ℕ) (m : ℕ) → 0 < m → delaysIn (wide (headerRow bytes)) m ≡ delaysOf bytes
-unfolding delaysIn delaysOf
-delays-are bytes zero h = absurd (omega arith)
-delays-are bytes (suc m) h = rw (converted-wide Reading (layout 0) (headerRow bytes))
+pub header-in : (bytes : List ℕ) → headerIn (wide (headerRow bytes)) ≡ headerOf bytes
+unfolding headerIn headerOf
+header-in bytes = rw (converted-wide Reading (layout 0) (headerRow bytes))
+
+pub header-taken : (bytes : List ℕ) (m : ℕ) → 0 < m → headerTaken (wide (headerRow bytes)) m ≡ headerOf bytes
+unfolding headerTaken
+header-taken bytes zero h = absurd (omega arith)
+header-taken bytes (suc m) h = header-in bytes
+
+-- as an array: the numbers of the converted row at their places, and zeros
+pub header-wide : (header row : List ℕ) → row ≡ wide (converted Reading (layout 0) header)
+    → getD row 0 0 ∷ getD row 6 0 ∷ getD row 7 0 ∷ getD row 8 0 ∷ getD row 9 0 ∷ 0 ∷ 0 ∷ 0 ∷ 0 ∷ 0 ∷ 0 ∷ [] ≡ wide (headerIn header)
+unfolding headerIn wide named indexIn numberOf layoutIn headerShapes
+header-wide header row e =
+    let number : (k : ℕ) → getD row k 0 ≡ getD (converted Reading (layout 0) header) k 0 = λ k. ap (λ (r : List ℕ). getD r k 0) e ∙ wide-at (converted Reading (layout 0) header) k in
+    λ i. number 0 i ∷ number 6 i ∷ number 7 i ∷ number 8 i ∷ number 9 i ∷ 0 ∷ 0 ∷ 0 ∷ 0 ∷ 0 ∷ 0 ∷ []
+
+pub header-five : (bytes header row : List ℕ) → header ≡ wide (headerRow bytes) → row ≡ wide (headerIn header)
+    → getD row 0 0 ∷ getD row 1 0 ∷ getD row 2 0 ∷ getD row 3 0 ∷ getD row 4 0 ∷ [] ≡ headerOf bytes
+unfolding wide headerIn
+header-five bytes header row h e = rw (e, h) (header-in bytes)

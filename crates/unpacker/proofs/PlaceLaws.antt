@@ -1,6 +1,6 @@
 -- Where the sections of a table stand, as the header row tells: section by section, and no place overflows.
 -- Assumes nothing.
-use mathlib.Core.Path.{_≡_, refl, sym, ap, _∙_}
+use mathlib.Core.Path.{_≡_, refl, sym, ap, ap₂, _∙_}
 use mathlib.Core.List.{List}
 use Prim.Native.Nat.{ℕ, zero, suc, _+_, _*_, _≤_, _<_}
 use native.Mathlib.Nat.{mul-le-mul}
@@ -9,13 +9,14 @@ use native.Mathlib.Omega.{arith}
 use lib.ListN.{getD, set, replicate}
 use Rattle.base.specs.Tabulate.{tabulate}
 use Rattle.base.proofs.TabulateLaws.{length-tabulate, tabulate-at}
-use Rattle.layout.specs.Layout.{size}
-use Rattle.layout.specs.Rows.{rowAt}
+use Rattle.layout.specs.declared.Name.the-variants as name
+use Rattle.layout.specs.Layout.{kindOf, placeOf, size}
+use Rattle.layout.specs.Rows.{rowAt, named}
 use Rattle.layout.specs.Contracts.{wide}
 use Rattle.layout.proofs.LayoutLaws.{size-most}
 use Rattle.layout.proofs.RowLaws.{wide-at}
 use Rattle.unpacker.specs.declared.examine.Places.{Places}
-use Rattle.table.specs.Sections.{headerRow, rows, from, row, lent}
+use Rattle.table.specs.Sections.{headerRow, version, kindIn, rows, from, row, lent}
 use Rattle.unpacker.specs.Unpacking.{countIn, placesOf, RowPlace}
 use Rattle.table.proofs.LentLaws.{lent-none, lent-at, lent-whole, lent-more}
 use Rattle.table.proofs.SectionLaws.{section-most, from-most}
@@ -41,6 +42,10 @@ module _ (bytes : List ℕ) where
     unfolding placesOf
     header-is = ap (λ (x : Places). x .header) is
 
+    pub version-there : p .version ≡ version bytes
+    unfolding placesOf
+    version-there = ap (λ (x : Places). x .version) is
+
     pub count-there : (s : ℕ) → s < 6 → getD (p .counts) s 0 ≡ rows bytes s
     unfolding placesOf
     count-there s h = ap (λ (x : Places). getD (x .counts) s 0) is ∙ tabulate-at (rows bytes) 6 s 0 h
@@ -49,15 +54,24 @@ module _ (bytes : List ℕ) where
     unfolding placesOf
     start-there s h = ap (λ (x : Places). getD (x .starts) s 0) is ∙ tabulate-at (from bytes) 7 s 0 h
 
-  -- ---- the place of a row
-  pub row-bytes : (s at i b : ℕ) → RowPlace bytes s at i → b ≡ size s → (i * b ≤ 57344) × (at ≤ 344064)
-  row-bytes s at i b p e =
-      let low = p .low in
-      (rw e (mul-le-mul {n₁ = i} {n₂ = 4096} (omega arith) (size-most s)), omega (arith, p .known, p .begins, from-most bytes s (omega (arith, p .known))))
+  -- ---- the version that the header row names
+  pub version-is : (header : List ℕ) (v : ℕ) → header ≡ wide (headerRow bytes) → v ≡ named 0 header name.Version → v ≡ version bytes
+  unfolding version named
+  version-is header v is e = e ∙ ap (λ (r : List ℕ). getD r (placeOf 0 name.Version) 0) is ∙ wide-at (headerRow bytes) (placeOf 0 name.Version)
 
-  pub row-is : (s at i b : ℕ) (raw : List ℕ) → RowPlace bytes s at i → b ≡ size s → raw ≡ wide (rowAt bytes (8 * (at + i * b)) s) → raw ≡ wide (row bytes s i)
-  unfolding row
-  row-is s at i b raw p e f = f ∙ ap (λ (a : ℕ). wide (rowAt bytes a s)) (rw (p .begins, e))
+  -- ---- the place of a row
+  module _ (v s at i k b : ℕ) (p : RowPlace bytes v s at i) (of-kind : k ≡ kindOf v s) (long : b ≡ size k) where
+    kind-is : k ≡ kindIn bytes s
+    kind-is = of-kind ∙ ap (λ (w : ℕ). kindOf w s) (p .names)
+
+    pub row-bytes : (i * b ≤ 57344) × (at ≤ 344064)
+    row-bytes =
+        let low = p .low in
+        (rw long (mul-le-mul {n₁ = i} {n₂ = 4096} (omega arith) (size-most k)), omega (arith, p .known, p .begins, from-most bytes s (omega (arith, p .known))))
+
+    pub row-is : (raw : List ℕ) → raw ≡ wide (rowAt bytes (8 * (at + i * b)) k) → raw ≡ wide (row bytes s i)
+    unfolding row
+    row-is raw f = f ∙ ap₂ (λ (a m : ℕ). wide (rowAt bytes a m)) (rw (p .begins, long, kind-is)) kind-is
 
   -- ---- one section more
   abbrev pub counted : ℕ → List ℕ
@@ -85,7 +99,11 @@ module _ (bytes : List ℕ) where
       let n = length-tabulate (from bytes) (suc s) in
       lent-at 7 (tabulate (from bytes) (suc s)) s (omega arith) ∙ tabulate-at (from bytes) (suc s) s 0 (omega arith)
 
-  module _ (header : List ℕ) (is : header ≡ wide (headerRow bytes)) (s n b : ℕ) (h : s < 6) (counts-is : n ≡ countIn header s) (bytes-is : b ≡ size s) where
+  module _ (header : List ℕ) (is : header ≡ wide (headerRow bytes)) (v s n k b : ℕ) (names : v ≡ named 0 header name.Version) (h : s < 6)
+      (counts-is : n ≡ countIn header s) (of-kind : k ≡ kindOf v s) (long : b ≡ size k) where
+    bytes-is : b ≡ size (kindIn bytes s)
+    bytes-is = long ∙ ap size (of-kind ∙ ap (λ (w : ℕ). kindOf w s) (version-is header v is names))
+
     count-now : n ≡ rows bytes s
     count-now = counts-is ∙ ap (λ (r : List ℕ). countIn r s) is ∙ count-is s
 

@@ -6,8 +6,8 @@ use Rattle.unpacker.proofs.examine.own_answer.Kinds as own-answer-kinds
 use Rattle.unpacker.proofs.examine.own_answer.Reads as own-answer-reads
 use Rattle.unpacker.proofs.examine.counts_of.Kinds as counts-kinds
 use Rattle.unpacker.proofs.examine.counts_of.Reads as counts-reads
-use Rattle.unpacker.proofs.examine.delays_of.Kinds as delays-kinds
-use Rattle.unpacker.proofs.examine.delays_of.Reads as delays-reads
+use Rattle.unpacker.proofs.examine.header_list.Kinds as header-kinds
+use Rattle.unpacker.proofs.examine.header_list.Reads as header-reads
 use Rattle.unpacker.proofs.filling.fill_section.Kinds as fill-section-kinds
 use Rattle.unpacker.proofs.filling.fill_section.Reads as fill-section-reads
 use Rattle.unpacker.proofs.filling.clear.Kinds as clear-kinds
@@ -28,7 +28,7 @@ unpack-settles κs a x y ws vs p q = (
   (λ i. (
     tt,
     (
-      (p .delays-left ∙ sym (q .delays-left)) i,
+      (p .header-left ∙ sym (q .header-left)) i,
       (
         (p .systems-left ∙ sym (q .systems-left)) i,
         (
@@ -55,8 +55,8 @@ own-answer-settles κs a x y ws vs p q = (p ∙ sym q, refl)
 pub counts-settle : Settles 1 counts-kinds.ps counts-kinds.r counts-reads.Post
 counts-settle κs a x y ws vs p q = (p ∙ sym q, refl)
 
-pub delays-settle : Settles 1 delays-kinds.ps delays-kinds.r delays-reads.Post
-delays-settle κs a x y ws vs p q = (p ∙ sym q, refl)
+pub header-settles : Settles 1 header-kinds.ps header-kinds.r header-reads.Post
+header-settles κs a x y ws vs p q = (p ∙ sym q, refl)
 
 pub clear-settles : Settles 1 clear-kinds.ps clear-kinds.r clear-reads.Post
 clear-settles κs a x y ws vs p q = (refl, (λ i. ((p ∙ sym q) i, tt)))

@@ -2,6 +2,9 @@
 // An answer whose number is 0 stands for none, and the next test is tried.
 use layout::Fault;
 use layout::Way;
+use layout::places;
+use layout::sizes::HEADER_BYTES;
+use layout::sizes::HEADER_LIST;
 use layout::sizes::LONGEST;
 use table::Answer;
 ghost use mathlib.Core.Path.{_≡_};
@@ -9,13 +12,16 @@ ghost use Prim.Native.Nat.{_<_};
 ghost use Rattle.base.specs.Tabulate.{tabulate};
 ghost use Rattle.layout.specs.Contracts.{wide};
 ghost use Rattle.table.specs.Answers.{accepted};
-ghost use Rattle.table.specs.Sections.{headerRow, rows, from, row};
-ghost use Rattle.table.specs.Unpack.{delaysOf};
-ghost use Rattle.unpacker.specs.Unpacking.{RowPlace, countIn, tableAnswer, lastAnswer, answerIn, answerOf, placesOf, examined};
+ghost use Rattle.layout.specs.declared.Name.the-variants as name;
+ghost use Rattle.layout.specs.Rows.{named};
+ghost use Rattle.table.specs.Sections.{headerRow, version as versionIn, rows, from, row};
+ghost use Rattle.table.specs.Lists.{headerOf};
+ghost use Rattle.unpacker.specs.Unpacking.{RowPlace, countIn, headerIn, tableAnswer, lastAnswer, answerIn, answerOf, placesOf, examined};
 
-// The header row, the rows of each section, and the byte where each section begins; section 6 would begin where the table ends.
+// The header row and the version that it names, the rows of each section, and the byte where each section begins; section 6 would begin where the table ends.
 pub struct Places {
     pub header: [u64; LONGEST],
+    pub version: u64,
     pub counts: [usize; 6],
     pub starts: [usize; 7],
 }
@@ -54,12 +60,39 @@ pub fn counts_of(table: &[u8]) -> [usize; 6]
     places.counts
 }
 
-// The delays of the header.
-pub fn delays_of(table: &[u8]) -> [u64; 4]
-    ensures { λ r. ⌜ r ≡ delaysOf (now (table .entry)) ⌝ }
+// The header's numbers: the version and the delays.
+pub fn header_list(table: &[u8]) -> [u64; HEADER_LIST]
+    ensures { λ r. ⌜ r ≡ headerOf (now (table .entry)) ⌝ }
 {
-    let row = layout::converted_row(Way::Reading, 0, header_of(table));
-    [row[6], row[7], row[8], row[9]]
+    let row = header_numbers(header_of(table));
+    [row[0], row[1], row[2], row[3], row[4]]
+}
+
+// The same of a header row, in an array that has room for any row.
+pub(crate) fn header_numbers(header: [u64; LONGEST]) -> [u64; LONGEST]
+    ensures { λ r. ⌜ r ≡ wide (headerIn header) ⌝ }
+{
+    let row = layout::converted_row(Way::Reading, 0, header);
+    [
+        row[places::VERSION],
+        row[places::SEND_LEAST],
+        row[places::SEND_GREATEST],
+        row[places::RECEIVE_LEAST],
+        row[places::RECEIVE_GREATEST],
+        0,
+        0,
+        0,
+        0,
+        0,
+        0,
+    ]
+}
+
+// The version that a header row names.
+fn version_in(header: [u64; LONGEST]) -> u64
+    ensures { λ r. ⌜ r ≡ named 0 header name.Version ⌝ }
+{
+    header[places::VERSION]
 }
 
 // The header is one row; field s of it counts the rows of section s.
@@ -77,8 +110,8 @@ fn count_in(header: [u64; LONGEST], section: usize) -> usize
 fn header_of(table: &[u8]) -> [u64; LONGEST]
     ensures { λ r. ⌜ r ≡ wide (headerRow (now (table .entry))) ⌝ }
 {
-    if 14 <= table.len() {
-        return layout::row_at(&table[..14], 0, 0);
+    if HEADER_BYTES <= table.len() {
+        return layout::row_at(&table[..HEADER_BYTES], 0, 0);
     }
     layout::row_at(table, 0, 0)
 }
@@ -87,18 +120,20 @@ pub(crate) fn places_in(table: &[u8]) -> Places
     ensures { λ r. ⌜ r ≡ placesOf (now (table .entry)) ⌝ }
 {
     let header = header_of(table);
+    let version = version_in(header);
     let mut counts = [0usize; 6];
     let mut starts = [0usize; 7];
     let mut s = 0;
     while s < 6 {
         let n = count_in(header, s);
-        let end = starts[s] + n * layout::bytes_in(s);
+        let end = starts[s] + n * layout::bytes_in(layout::kind_of(version, s));
         counts[s] = n;
         s += 1;
         starts[s] = end;
     }
     Places {
         header: header,
+        version: version,
         counts: counts,
         starts: starts,
     }
@@ -119,7 +154,7 @@ fn answer_of(table: &[u8], places: Places) -> Answer
     requires { ⌜ places ≡ placesOf (now table) ⌝ }
     ensures { λ r. ⌜ r ≡ tableAnswer (now (table .entry)) ⌝ }
 {
-    if table.len() < 14 {
+    if table.len() < HEADER_BYTES {
         return Answer {
             number: 1,
             section: 0,
@@ -145,6 +180,7 @@ fn answer_of_rows(table: &[u8], places: Places) -> Answer
     requires { ⌜ places ≡ placesOf (now table) ⌝ }
     ensures { λ r. ⌜ r ≡ lastAnswer (now (table .entry)) ⌝ }
 {
+    let version = places.version;
     let starts = places.starts;
     let counts = places.counts;
     if table.len() != starts[6] {
@@ -157,7 +193,7 @@ fn answer_of_rows(table: &[u8], places: Places) -> Answer
     }
     let mut s = 1;
     while s < 6 {
-        let answer = answer_in(table, s, starts[s], counts[s]);
+        let answer = answer_in(table, version, s, starts[s], counts[s]);
         let number = answer.number;
         if number != 0 {
             return answer;
@@ -168,13 +204,13 @@ fn answer_of_rows(table: &[u8], places: Places) -> Answer
 }
 
 // Answer 4 for the first bad row of a section that begins at byte `at` and has n rows.
-fn answer_in(table: &[u8], section: usize, at: usize, n: usize) -> Answer
-    requires { ⌜ (section < 6) × (at ≡ from (now table) section) × (n ≡ rows (now table) section) ⌝ }
+fn answer_in(table: &[u8], version: u64, section: usize, at: usize, n: usize) -> Answer
+    requires { ⌜ (version ≡ versionIn (now table)) × (section < 6) × (at ≡ from (now table) section) × (n ≡ rows (now table) section) ⌝ }
     ensures { λ r. ⌜ r ≡ answerIn (now (table .entry)) section ⌝ }
 {
     let mut i = 0;
     while i < n {
-        let answer = answer_at(table, section, at, i);
+        let answer = answer_at(table, version, section, at, i);
         let number = answer.number;
         if number != 0 {
             return answer;
@@ -185,12 +221,12 @@ fn answer_in(table: &[u8], section: usize, at: usize, n: usize) -> Answer
 }
 
 // Answer 4 for a row.
-fn answer_at(table: &[u8], section: usize, at: usize, i: usize) -> Answer
-    requires { ⌜ RowPlace (now table) section at i ⌝ }
+fn answer_at(table: &[u8], version: u64, section: usize, at: usize, i: usize) -> Answer
+    requires { ⌜ RowPlace (now table) version section at i ⌝ }
     ensures { λ r. ⌜ r ≡ answerOf (now (table .entry)) section i ⌝ }
 {
-    let raw = raw_row(table, section, at, i);
-    let fault = layout::fault_of(Way::Reading, section, raw);
+    let raw = raw_row(table, version, section, at, i);
+    let fault = layout::fault_of(Way::Reading, layout::kind_of(version, section), raw);
     match fault {
         Fault::Test(test) => Answer {
             number: 4,
@@ -203,9 +239,16 @@ fn answer_at(table: &[u8], section: usize, at: usize, i: usize) -> Answer
 }
 
 // The stored numbers of row i of a section that begins at byte `at`.
-pub(crate) fn raw_row(table: &[u8], section: usize, at: usize, i: usize) -> [u64; LONGEST]
-    requires { ⌜ RowPlace (now table) section at i ⌝ }
+pub(crate) fn raw_row(
+    table: &[u8],
+    version: u64,
+    section: usize,
+    at: usize,
+    i: usize,
+) -> [u64; LONGEST]
+    requires { ⌜ RowPlace (now table) version section at i ⌝ }
     ensures { λ r. ⌜ r ≡ wide (row (now (table .entry)) section i) ⌝ }
 {
-    layout::row_at(table, 8 * (at + i * layout::bytes_in(section)), section)
+    let kind = layout::kind_of(version, section);
+    layout::row_at(table, 8 * (at + i * layout::bytes_in(kind)), kind)
 }

@@ -1,6 +1,7 @@
 // The unpacker's answer: the table's own, and behind it 11 where a list is too short.
 // It tells as well which rows are taken of each section, and where they stand.
 use crate::examine;
+use layout::sizes::HEADER_LIST;
 use layout::sizes::LONGEST;
 use table::Answer;
 ghost use mathlib.Core.Path.{_≡_};
@@ -11,10 +12,11 @@ ghost use Rattle.base.specs.Pick.{pick};
 ghost use Rattle.layout.specs.Rows.{listed};
 ghost use Rattle.unpacker.specs.Unpacking.{Few, roomIn, judgedAnswer, judged};
 
-// The unpacker's answer, the rows that are taken of each section, none on a refusal, and the byte where each section begins.
+// The unpacker's answer, the header row and the version that it names, the rows that are taken of each section, none on a refusal, and the byte where each section begins.
 pub struct Judged {
     pub answer: Answer,
     pub header: [u64; LONGEST],
+    pub version: u64,
     pub taken: [usize; 6],
     pub starts: [usize; 7],
 }
@@ -32,6 +34,7 @@ pub(crate) fn judge(table: &[u8], lengths: [usize; 6]) -> Judged
     Judged {
         answer: answer,
         header: header,
+        version: places.version,
         taken: taken,
         starts: starts,
     }
@@ -49,7 +52,7 @@ fn has_room(counts: [usize; 6], lengths: [usize; 6]) -> bool
     requires { ⌜ Few counts ⌝ }
     ensures { λ r. ⌜ r ≡ roomIn counts lengths ⌝ }
 {
-    (4 <= lengths[0])
+    (HEADER_LIST <= lengths[0])
         & holds(counts[1], 1, lengths[1])
         & holds(counts[2], 2, lengths[2])
         & holds(counts[3], 3, lengths[3])

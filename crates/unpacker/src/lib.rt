@@ -5,7 +5,7 @@ mod filling;
 mod judging;
 
 pub use examine::counts_of;
-pub use examine::delays_of;
+pub use examine::header_list;
 pub use examine::own_answer;
 pub use filling::clear;
 pub use filling::fill_section;
@@ -13,10 +13,10 @@ use table::Unpacked;
 ghost use lib.ListN.{length};
 ghost use Rattle.table.specs.Unpack.{Unpacks};
 
-// The table's records, section by section: gaps in milliseconds, speeds in Mbit/s, no padding. Gives the answers 1 to 4 and 11.
+// The header's version and delays, and the table's records, section by section: gaps in milliseconds, speeds in Mbit/s, no padding. Gives the answers 1 to 4 and 11.
 pub fn unpack(
     table: &[u8],
-    delays: &mut [u64],
+    header: &mut [u64],
     systems: &mut [u64],
     vls: &mut [u64],
     streams: &mut [u64],
@@ -28,7 +28,7 @@ pub fn unpack(
         Unpacks
         (now (table .entry))
         (record {
-          delays = length (now (delays .entry));
+          header = length (now (header .entry));
           systems = length (now (systems .entry));
           vls = length (now (vls .entry));
           streams = length (now (streams .entry));
@@ -36,7 +36,7 @@ pub fn unpack(
           hops = length (now (hops .entry));
         })
         r
-        (now (delays .exit))
+        (now (header .exit))
         (now (systems .exit))
         (now (vls .exit))
         (now (streams .exit))
@@ -45,7 +45,7 @@ pub fn unpack(
         ⌝ }
 {
     let lengths = [
-        delays.len(),
+        header.len(),
         systems.len(),
         vls.len(),
         streams.len(),
@@ -54,12 +54,13 @@ pub fn unpack(
     ];
     let judged = judging::judge(table, lengths);
     let answer = judged.answer;
-    let header = judged.header;
+    let row = judged.header;
+    let version = judged.version;
     let taken = judged.taken;
     let starts = judged.starts;
-    filling::fill_delays(header, taken[0], delays);
-    filling::fill_three(table, taken, starts, systems, vls, streams);
-    filling::fill_two(table, taken, starts, ports, hops);
+    filling::fill_header(row, taken[0], header);
+    filling::fill_three(table, version, taken, starts, systems, vls, streams);
+    filling::fill_two(table, version, taken, starts, ports, hops);
     Unpacked {
         answer: answer,
         systems: taken[1],

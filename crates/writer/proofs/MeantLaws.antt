@@ -1,32 +1,29 @@
 -- One list of records: where a record stands, its numbers and its padding, and the bytes that the records take.
 -- Assumes nothing.
 use mathlib.Core.Path.{_≡_, sym, ap, _∙_}
-use mathlib.Core.List.{List, [], _∷_}
-use Prim.Native.Nat.{ℕ, zero, suc, _+_, _-_, _*_, _/_, _≤_, _<_}
-use native.Mathlib.Nat.{le-div-iff-mul-le}
+use mathlib.Core.List.{List}
+use Prim.Native.Nat.{ℕ, _+_, _-_, _*_, _/_, _≤_, _<_}
+use native.Mathlib.Nat.{le-refl, le-div-iff-mul-le, div-mul-le-self, mul-le-mul}
 use native.Mathlib.Omega.{arith}
-use lib.ListN.{length, getD, take, drop, replicate, length-append, length-drop, length-replicate, List·getD-append}
-use lib.Seq.{length-take-le, getD-take, getD-drop, take-at}
-use Rattle.layout.specs.Layout.{layout, size}
+use lib.ListN.{length, getD, take, drop, length-drop}
+use lib.Seq.{length-take-le, getD-take, getD-drop}
+use Rattle.layout.specs.Layout.{layout, kindOf, size}
 use Rattle.layout.specs.Contracts.{wide}
 use Rattle.layout.specs.Rows.{listed}
-use Rattle.layout.proofs.LayoutLaws.{few-fields, listed-fields, listed-is, size-is}
+use Rattle.layout.proofs.LayoutLaws.{few-fields, listed-fields, listed-same, size-numbers}
 use Rattle.layout.proofs.WideLaws.{wide-padded}
 use Rattle.table.proofs.UnpackLaws.{listed-some}
-use Rattle.writer.specs.Writing.{listRow, HasRecord}
+use Rattle.writer.specs.Writing.{listNumbers, listRow, HasRecord}
 
--- ---- a record's bytes are no more than twice its numbers
-pub bytes-few : (n s : ℕ) → s < 6 → n / listed s * size s ≤ 2 * n
-bytes-few n s h = rw (listed-is s, size-is s) (go s h)
-  where
-    go : (s : ℕ) → s < 6 → n / getD (10 ∷ 1 ∷ 4 ∷ 7 ∷ 3 ∷ 3 ∷ []) s 0 * getD (14 ∷ 1 ∷ 3 ∷ 13 ∷ 4 ∷ 4 ∷ []) s 0 ≤ 2 * n
-    go zero h = omega arith
-    go (suc zero) h = omega arith
-    go (suc (suc zero)) h = omega arith
-    go (suc (suc (suc zero))) h = omega arith
-    go (suc (suc (suc (suc zero)))) h = omega arith
-    go (suc (suc (suc (suc (suc zero))))) h = omega arith
-    go (suc (suc (suc (suc (suc (suc s)))))) h = absurd (omega arith)
+-- ---- the records of a list take no more bytes than twice its numbers
+pub bytes-few : (n v s : ℕ) → n / listed s * size (kindOf v s) ≤ 2 * n
+bytes-few n v s =
+    omega (
+      arith,
+      mul-le-mul (le-refl (n / listed s)) (size-numbers (kindOf v s)),
+      ap (λ (m : ℕ). n / listed s * (2 * m)) (listed-same v s),
+      div-mul-le-self n (listed s),
+    )
 
 -- ---- a record of a list
 module _ (list : List ℕ) (section i : ℕ) (has : HasRecord list section i) where
@@ -34,37 +31,21 @@ module _ (list : List ℕ) (section i : ℕ) (has : HasRecord list section i) wh
   pub record-inside : i * listed section + listed section ≤ length list
   record-inside = omega (arith, le-div-iff-mul-le {k = listed section} (listed-some section (has .known)) .0 (has .inside))
 
-  abbrev numbers : List ℕ
-  numbers = take (listed section) (drop (i * listed section) list)
-
-  long : length numbers ≡ listed section
-  long = length-take-le (listed section) (drop (i * listed section) list) (omega (arith, record-inside, length-drop (i * listed section) list))
-
-  pub length-list-row : length (listRow list section i) ≡ length (layout section)
-  unfolding listRow
-  length-list-row =
-      omega (
-        arith,
-        length-append numbers (replicate (length (layout section) - listed section) 0),
-        long,
-        length-replicate {A = ℕ} (length (layout section) - listed section) 0,
-        listed-fields section .0,
-      )
+  pub length-numbers : length (listNumbers list section i) ≡ listed section
+  unfolding listNumbers
+  length-numbers = length-take-le (listed section) (drop (i * listed section) list) (omega (arith, record-inside, length-drop (i * listed section) list))
 
   -- its numbers
-  pub row-number : (k : ℕ) → k < listed section → getD list (i * listed section + k) 0 ≡ getD (listRow list section i) k 0
-  unfolding listRow
-  row-number k h =
-      sym
-      (List·getD-append numbers (replicate (length (layout section) - listed section) 0) 0 k (omega (arith, long))
-      ∙ getD-take (listed section) (drop (i * listed section) list) k 0 h
-      ∙ getD-drop (i * listed section) list k 0)
+  pub number-at : (k : ℕ) → k < listed section → getD list (i * listed section + k) 0 ≡ getD (listNumbers list section i) k 0
+  unfolding listNumbers
+  number-at k h = sym (getD-take (listed section) (drop (i * listed section) list) k 0 h ∙ getD-drop (i * listed section) list k 0)
 
-  -- and behind them zeros
-  pub row-numbers : (out : List ℕ) (k : ℕ) → k ≡ listed section → out ≡ wide (take k (listRow list section i)) → out ≡ wide (listRow list section i)
+  -- padding is zero, as an array has it
+  pub row-is : (v : ℕ) (row : List ℕ) → row ≡ wide (listNumbers list section i) → row ≡ wide (listRow v list section i)
   unfolding listRow
-  row-numbers out k same e =
-      let zeros : List ℕ = replicate (length (layout section) - listed section) 0 in
+  row-is v row e =
+      let k = kindOf v section in
       e
-      ∙ ap (λ (l : List ℕ). wide l) (take-at numbers zeros k (long ∙ sym same))
-      ∙ sym (wide-padded numbers (length (layout section) - listed section) (omega (arith, long, few-fields section, listed-fields section .0)))
+      ∙ sym
+      (wide-padded (listNumbers list section i) (length (layout k) - listed section)
+      (omega (arith, length-numbers, few-fields k, listed-fields k .0, listed-same v section)))

@@ -13,12 +13,14 @@ use Rattle.base.specs.Pick.{pick}
 use Rattle.base.specs.Least.{leastFrom}
 use Rattle.layout.specs.declared.Way.the-variants.{Writing}
 use Rattle.base.specs.Tests.{isSome, numberOr0}
+use Rattle.layout.specs.Layout.{headerNames}
 use Rattle.layout.specs.Rows.{listed, rowFault}
 use Rattle.layout.proofs.ToldLaws.{some-told, none-told, number-told}
 use Rattle.table.specs.declared.Answer.{Answer}
 use Rattle.table.specs.Answers.{answer, accepted, firstGiven}
-use Rattle.table.specs.Write.{Lists, listFor, recordsIn, headerFor, meantRow, whole, write2, badRecord, badList, answerAtRecord, write4, tableSize, write11, writeAnswer}
-use Rattle.writer.specs.Writing.{given, firstOf, listRow, badIn, listAnswer, headerFault, roomAnswer}
+use Rattle.table.specs.Lists.{Lists, listFor, recordsIn, versionFor}
+use Rattle.table.specs.Write.{headerFor, meantRow, whole, write2, badRecord, badList, answerAtRecord, write4, tableSize, write11, writeAnswer}
+use Rattle.writer.specs.Writing.{given, firstOf, listNumbers, listRow, recordFault, badIn, listAnswer, headerFault, roomAnswer}
 
 -- ---- the first that refuses
 -- what is given has a number
@@ -55,13 +57,13 @@ module _ (ls : Lists) where
       (fault-refuses (rowFault Writing 0 (headerFor ls)) (answer 2 0 0) (λ test. omega arith))
       (omega arith)
 
-  pub whole-delays : whole ls ≡ true → length (ls .delays) ≡ 4
+  pub whole-header : whole ls ≡ true → length (ls .header) ≡ length headerNames
   unfolding whole
-  whole-delays e =
+  whole-header e =
       let rest =
       eqb (length (ls .vls) % listed 2) 0
       && (eqb (length (ls .streams) % listed 3) 0 && (eqb (length (ls .ports) % listed 4) 0 && eqb (length (ls .hops) % listed 5) 0)) in
-      eqb-true (length (ls .delays)) 4 (and-eq-true-iff (eqb (length (ls .delays)) 4) rest .0 e .0)
+      eqb-true (length (ls .header)) (length headerNames) (and-eq-true-iff (eqb (length (ls .header)) (length headerNames)) rest .0 e .0)
 
   pub two-whole : whole ls ≡ true → headerFault (rowFault Writing 0 (headerFor ls)) ≡ given (write2 ls)
   unfolding write2 headerFault given
@@ -130,11 +132,11 @@ module _ (ls : Lists) where
 
   abbrev recordsAnswer : Answer
   recordsAnswer =
-      firstOf (listAnswer (ls .systems) 1)
-      (firstOf (listAnswer (ls .vls) 2) (firstOf (listAnswer (ls .streams) 3) (firstOf (listAnswer (ls .ports) 4) (listAnswer (ls .hops) 5))))
+      firstOf (listAnswer (versionFor ls) (ls .systems) 1)
+      (firstOf (listAnswer (versionFor ls) (ls .vls) 2) (firstOf (listAnswer (versionFor ls) (ls .streams) 3) (firstOf (listAnswer (versionFor ls) (ls .ports) 4) (listAnswer (versionFor ls) (ls .hops) 5))))
 
   pub four-is : given (write4 ls) ≡ recordsAnswer
-  unfolding write4 badList answerAtRecord badRecord recordsIn meantRow listFor listAnswer badIn listRow toldAt bads
+  unfolding write4 badList answerAtRecord badRecord recordsIn meantRow listFor listAnswer badIn recordFault listRow listNumbers toldAt bads
   four-is = five (badRecord ls) (answerAtRecord ls) (λ s i. omega arith)
 
   -- ---- 11
@@ -176,7 +178,7 @@ module _ (ls : Lists) where
       go true h = (eqb-true (a .number) 0 h, rw h at e)
       go false h = absurd (eqb-false (a .number) 0 h (rw h at e))
 
-  header-passed : given (write2 ls) .number ≡ 0 → (length (ls .delays) ≡ 4) × (rowFault Writing 0 (headerFor ls) ≡ none)
+  header-passed : given (write2 ls) .number ≡ 0 → (length (ls .header) ≡ length headerNames) × (rowFault Writing 0 (headerFor ls) ≡ none)
   unfolding headerFault
   header-passed e = go (whole ls) refl
     where
@@ -184,8 +186,8 @@ module _ (ls : Lists) where
       clean none z = refl
       clean (some test) z = absurd (omega arith)
 
-      go : (t : Bool) → whole ls ≡ t → (length (ls .delays) ≡ 4) × (rowFault Writing 0 (headerFor ls) ≡ none)
-      go true h = (whole-delays ls h, clean (rowFault Writing 0 (headerFor ls)) (rw (two-whole ls h) e))
+      go : (t : Bool) → whole ls ≡ t → (length (ls .header) ≡ length headerNames) × (rowFault Writing 0 (headerFor ls) ≡ none)
+      go true h = (whole-header ls h, clean (rowFault Writing 0 (headerFor ls)) (rw (two-whole ls h) e))
       go false h = absurd (omega (arith, e, ap (λ (a : Answer). a .number) (two-broken ls h)))
 
   room-passed : (room : ℕ) → given (write11 ls room) .number ≡ 0 → tableSize ls ≤ room
@@ -197,7 +199,7 @@ module _ (ls : Lists) where
       go false h z = absurd (omega (arith, rw h at z))
 
   pub accepted-was : (room : ℕ) → writeAnswer ls room .number ≡ 0
-      → (length (ls .delays) ≡ 4) × (rowFault Writing 0 (headerFor ls) ≡ none) × (tableSize ls ≤ room)
+      → (length (ls .header) ≡ length headerNames) × (rowFault Writing 0 (headerFor ls) ≡ none) × (tableSize ls ≤ room)
   accepted-was room e =
       let both = passed (given (write2 ls)) (firstOf (given (write4 ls)) (given (write11 ls room))) (rw (answer-is room) at e) in
       let rest = passed (given (write4 ls)) (given (write11 ls room)) (both .1) in

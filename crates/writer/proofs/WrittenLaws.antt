@@ -9,7 +9,8 @@ use lib.ListN.{length, drop, replicate}
 use borrow.Author.Tests.{eq-eqb, ne-eqb}
 use Rattle.table.specs.declared.Answer.{Answer}
 use Rattle.table.specs.Sections.{lent}
-use Rattle.table.specs.Write.{Lists, tableSize, packed, writeAnswer, writes, Writes}
+use Rattle.table.specs.Lists.{Lists}
+use Rattle.table.specs.Write.{tableSize, packed, writeAnswer, writes, Writes}
 use Rattle.writer.proofs.ClearLaws.{zeros-behind}
 
 module _ (ls : Lists) (room : ℕ) (a : Answer) (is : a ≡ writeAnswer ls room) where

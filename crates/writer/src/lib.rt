@@ -8,17 +8,18 @@ use crate::source::header_row;
 use crate::source::list_row;
 use crate::source::records_in;
 use crate::source::table_bytes;
+use crate::source::version_of;
 use layout::Way;
 use table::Written;
 ghost use mathlib.Core.Path.{_≡_};
-ghost use Prim.Native.Nat.{_+_, _*_};
+ghost use Prim.Native.Nat.{_*_, _<_};
 ghost use lib.ListN.{length, replicate};
-ghost use Rattle.bits.specs.Rows.{putAll, putRows};
+ghost use Rattle.bits.specs.Rows.{putAll};
 ghost use Rattle.layout.specs.declared.Way.the-variants.{Writing};
-ghost use Rattle.layout.specs.Layout.{layout, widths, size};
+ghost use Rattle.layout.specs.Layout.{layout, headerNames, kindOf, widths, size};
 ghost use Rattle.layout.specs.Rows.{converted};
 ghost use Rattle.table.specs.Write.{headerFor, packed, Writes};
-ghost use Rattle.writer.specs.Writing.{lists, countIn, listStored, listRows, HasRecord, HasRoom, Behind, earlyEnd, earlyPut, lateEnd, latePut, Fillable};
+ghost use Rattle.writer.specs.Writing.{lists, countIn, listStored, HasRecord, HasRoom, Behind, listEnd, withList, earlyEnd, earlyPut, lateEnd, latePut, Fillable};
 
 // Makes every byte 0.
 fn clear(out: &mut [u8])
@@ -33,24 +34,25 @@ fn clear(out: &mut [u8])
 }
 
 // Puts record i of a list where there is room for one record, from byte `at` on.
-fn put_record(list: &[u64], section: usize, i: usize, at: usize, out: &mut [u8])
-    requires { ⌜ HasRecord (now list) section i × HasRoom (now out) section at 1 ⌝ }
-    ensures { λ _. ⌜ now (out .exit) ≡ putAll (now (out .entry)) (8 * at) (widths section) (listStored (now (list .entry)) section i) ⌝ }
+fn put_record(list: &[u64], version: u64, section: usize, i: usize, at: usize, out: &mut [u8])
+    requires { ⌜ HasRecord (now list) section i × HasRoom (now out) (kindOf version section) at 1 ⌝ }
+    ensures { λ _. ⌜ now (out .exit) ≡ putAll (now (out .entry)) (8 * at) (widths (kindOf version section)) (listStored version (now (list .entry)) section i) ⌝ }
 {
-    let raw = layout::converted_row(Way::Writing, section, list_row(list, section, i));
-    layout::put_row(out, 8 * at, section, raw);
+    let kind = layout::kind_of(version, section);
+    let raw = layout::converted_row(Way::Writing, kind, list_row(list, section, i));
+    layout::put_row(out, 8 * at, kind, raw);
 }
 
 // Puts the records of a list from byte `at` on, and says where they end.
-fn put_section(list: &[u64], section: usize, at: usize, out: &mut [u8]) -> usize
-    requires { ⌜ HasRoom (now out) section at (countIn (now list) section) ⌝ }
-    ensures { λ r. ⌜ (r ≡ at + countIn (now (list .entry)) section * size section) × (now (out .exit) ≡ putRows (now (out .entry)) (8 * at) (widths section) (listRows (now (list .entry)) section (countIn (now (list .entry)) section))) ⌝ }
+fn put_section(list: &[u64], version: u64, section: usize, at: usize, out: &mut [u8]) -> usize
+    requires { ⌜ (section < 6) × HasRoom (now out) (kindOf version section) at (countIn (now list) section) ⌝ }
+    ensures { λ r. ⌜ (r ≡ listEnd version (now (list .entry)) section at) × (now (out .exit) ≡ withList version (now (list .entry)) section at (now (out .entry))) ⌝ }
 {
     let n = records_in(list, section);
-    let size = layout::bytes_in(section);
+    let size = layout::bytes_in(layout::kind_of(version, section));
     let mut i = 0;
     while i < n {
-        put_record(list, section, i, at + i * size, out);
+        put_record(list, version, section, i, at + i * size, out);
         i += 1;
     }
     at + n * size
@@ -58,7 +60,7 @@ fn put_section(list: &[u64], section: usize, at: usize, out: &mut [u8]) -> usize
 
 // Puts the header, and says where it ends.
 fn put_header(
-    delays: &[u64],
+    header: &[u64],
     systems: &[u64],
     vls: &[u64],
     streams: &[u64],
@@ -66,37 +68,37 @@ fn put_header(
     hops: &[u64],
     out: &mut [u8],
 ) -> usize
-    requires { ⌜ (length (now delays) ≡ 4) × HasRoom (now out) 0 0 1 ⌝ }
-    ensures { λ r. ⌜ (r ≡ size 0) × (now (out .exit) ≡ putAll (now (out .entry)) 0 (widths 0) (converted Writing (layout 0) (headerFor (lists (now (delays .entry)) (now (systems .entry)) (now (vls .entry)) (now (streams .entry)) (now (ports .entry)) (now (hops .entry)))))) ⌝ }
+    requires { ⌜ (length (now header) ≡ length headerNames) × HasRoom (now out) 0 0 1 ⌝ }
+    ensures { λ r. ⌜ (r ≡ size 0) × (now (out .exit) ≡ putAll (now (out .entry)) 0 (widths 0) (converted Writing (layout 0) (headerFor (lists (now (header .entry)) (now (systems .entry)) (now (vls .entry)) (now (streams .entry)) (now (ports .entry)) (now (hops .entry)))))) ⌝ }
 {
-    let row = header_row(delays, systems, vls, streams, ports, hops);
+    let row = header_row(header, systems, vls, streams, ports, hops);
     let raw = layout::converted_row(Way::Writing, 0, row);
     layout::put_row(out, 0, 0, raw);
     layout::bytes_in(0)
 }
 
 // Puts the end systems and the VLs from byte `at` on, and says where they end.
-fn put_early(systems: &[u64], vls: &[u64], at: usize, out: &mut [u8]) -> usize
-    requires { ⌜ Behind (now out) (earlyEnd (now systems) (now vls) at) ⌝ }
-    ensures { λ r. ⌜ (r ≡ earlyEnd (now (systems .entry)) (now (vls .entry)) at) × (now (out .exit) ≡ earlyPut (now (systems .entry)) (now (vls .entry)) at (now (out .entry))) ⌝ }
+fn put_early(version: u64, systems: &[u64], vls: &[u64], at: usize, out: &mut [u8]) -> usize
+    requires { ⌜ Behind (now out) (earlyEnd version (now systems) (now vls) at) ⌝ }
+    ensures { λ r. ⌜ (r ≡ earlyEnd version (now (systems .entry)) (now (vls .entry)) at) × (now (out .exit) ≡ earlyPut version (now (systems .entry)) (now (vls .entry)) at (now (out .entry))) ⌝ }
 {
-    let next = put_section(systems, 1, at, out);
-    put_section(vls, 2, next, out)
+    let next = put_section(systems, version, 1, at, out);
+    put_section(vls, version, 2, next, out)
 }
 
 // Puts the streams, the ports and the hops from byte `at` on.
-fn put_late(streams: &[u64], ports: &[u64], hops: &[u64], at: usize, out: &mut [u8])
-    requires { ⌜ Behind (now out) (lateEnd (now streams) (now ports) (now hops) at) ⌝ }
-    ensures { λ _. ⌜ now (out .exit) ≡ latePut (now (streams .entry)) (now (ports .entry)) (now (hops .entry)) at (now (out .entry)) ⌝ }
+fn put_late(version: u64, streams: &[u64], ports: &[u64], hops: &[u64], at: usize, out: &mut [u8])
+    requires { ⌜ Behind (now out) (lateEnd version (now streams) (now ports) (now hops) at) ⌝ }
+    ensures { λ _. ⌜ now (out .exit) ≡ latePut version (now (streams .entry)) (now (ports .entry)) (now (hops .entry)) at (now (out .entry)) ⌝ }
 {
-    let next = put_section(streams, 3, at, out);
-    let last = put_section(ports, 4, next, out);
-    put_section(hops, 5, last, out);
+    let next = put_section(streams, version, 3, at, out);
+    let last = put_section(ports, version, 4, next, out);
+    put_section(hops, version, 5, last, out);
 }
 
 // Puts the whole table into cleared bytes, as many as it takes.
 fn fill(
-    delays: &[u64],
+    header: &[u64],
     systems: &[u64],
     vls: &[u64],
     streams: &[u64],
@@ -104,16 +106,18 @@ fn fill(
     hops: &[u64],
     out: &mut [u8],
 )
-    requires { ⌜ Fillable (lists (now delays) (now systems) (now vls) (now streams) (now ports) (now hops)) (now out) ⌝ }
-    ensures { λ _. ⌜ now (out .exit) ≡ packed (lists (now (delays .entry)) (now (systems .entry)) (now (vls .entry)) (now (streams .entry)) (now (ports .entry)) (now (hops .entry))) ⌝ }
+    requires { ⌜ Fillable (lists (now header) (now systems) (now vls) (now streams) (now ports) (now hops)) (now out) ⌝ }
+    ensures { λ _. ⌜ now (out .exit) ≡ packed (lists (now (header .entry)) (now (systems .entry)) (now (vls .entry)) (now (streams .entry)) (now (ports .entry)) (now (hops .entry))) ⌝ }
 {
-    let a = put_header(delays, systems, vls, streams, ports, hops, out);
-    let b = put_early(systems, vls, a, out);
-    put_late(streams, ports, hops, b, out);
+    let version = version_of(header);
+    let a = put_header(header, systems, vls, streams, ports, hops, out);
+    let b = put_early(version, systems, vls, a, out);
+    put_late(version, streams, ports, hops, b, out);
 }
 
+// The table of the lists: the header's has the version and the delays.
 pub fn write(
-    delays: &[u64],
+    header: &[u64],
     systems: &[u64],
     vls: &[u64],
     streams: &[u64],
@@ -121,14 +125,14 @@ pub fn write(
     hops: &[u64],
     out: &mut [u8],
 ) -> Written
-    ensures { λ r. ⌜ Writes (record { delays = now (delays .entry); systems = now (systems .entry); vls = now (vls .entry); streams = now (streams .entry); ports = now (ports .entry); hops = now (hops .entry) }) (length (now (out .entry))) r (now (out .exit)) ⌝ }
+    ensures { λ r. ⌜ Writes (record { header = now (header .entry); systems = now (systems .entry); vls = now (vls .entry); streams = now (streams .entry); ports = now (ports .entry); hops = now (hops .entry) }) (length (now (out .entry))) r (now (out .exit)) ⌝ }
 {
     clear(out);
-    let answer = refusal(delays, systems, vls, streams, ports, hops, out.len());
+    let answer = refusal(header, systems, vls, streams, ports, hops, out.len());
     let number = answer.number;
     if number == 0 {
-        let n = table_bytes(systems, vls, streams, ports, hops);
-        fill(delays, systems, vls, streams, ports, hops, &mut out[..n]);
+        let n = table_bytes(header, systems, vls, streams, ports, hops);
+        fill(header, systems, vls, streams, ports, hops, &mut out[..n]);
         return Written {
             answer: answer,
             length: n,

@@ -4,8 +4,10 @@ use crate::source::header_row;
 use crate::source::list_row;
 use crate::source::records_in;
 use crate::source::table_bytes;
+use crate::source::version_of;
 use layout::Fault;
 use layout::Way;
+use layout::sizes::HEADER_LIST;
 use table::Answer;
 ghost use mathlib.Core.Path.{_≡_};
 ghost use Prim.Native.Nat.{_%_, _<_};
@@ -30,11 +32,12 @@ fn acceptance() -> Answer
 }
 
 // The answer to record i of a list.
-fn record_answer(list: &[u64], section: usize, i: usize) -> Answer
+fn record_answer(list: &[u64], version: u64, section: usize, i: usize) -> Answer
     requires { ⌜ HasRecord (now list) section i ⌝ }
-    ensures { λ r. ⌜ r ≡ recordAnswer (now (list .entry)) section i ⌝ }
+    ensures { λ r. ⌜ r ≡ recordAnswer version (now (list .entry)) section i ⌝ }
 {
-    match layout::fault_of(Way::Writing, section, list_row(list, section, i)) {
+    let kind = layout::kind_of(version, section);
+    match layout::fault_of(Way::Writing, kind, list_row(list, section, i)) {
         Fault::Test(test) => Answer {
             number: 4,
             section: section as u64,
@@ -46,14 +49,14 @@ fn record_answer(list: &[u64], section: usize, i: usize) -> Answer
 }
 
 // The answer to a list: that to the first record that is bad.
-fn list_answer(list: &[u64], section: usize) -> Answer
+fn list_answer(list: &[u64], version: u64, section: usize) -> Answer
     requires { ⌜ section < 6 ⌝ }
-    ensures { λ r. ⌜ r ≡ listAnswer (now (list .entry)) section ⌝ }
+    ensures { λ r. ⌜ r ≡ listAnswer version (now (list .entry)) section ⌝ }
 {
     let n = records_in(list, section);
     let mut i = 0;
     while i < n {
-        let a = record_answer(list, section, i);
+        let a = record_answer(list, version, section, i);
         let number = a.number;
         if number != 0 {
             return a;
@@ -75,21 +78,25 @@ fn first_of(a: Answer, b: Answer) -> Answer
 
 // 4: the first bad record of the lowest section.
 fn records_answer(
+    version: u64,
     systems: &[u64],
     vls: &[u64],
     streams: &[u64],
     ports: &[u64],
     hops: &[u64],
 ) -> Answer
-    ensures { λ r. ⌜ r ≡ firstOf (listAnswer (now (systems .entry)) 1) (firstOf (listAnswer (now (vls .entry)) 2) (firstOf (listAnswer (now (streams .entry)) 3) (firstOf (listAnswer (now (ports .entry)) 4) (listAnswer (now (hops .entry)) 5)))) ⌝ }
+    ensures { λ r. ⌜ r ≡ firstOf (listAnswer version (now (systems .entry)) 1) (firstOf (listAnswer version (now (vls .entry)) 2) (firstOf (listAnswer version (now (streams .entry)) 3) (firstOf (listAnswer version (now (ports .entry)) 4) (listAnswer version (now (hops .entry)) 5)))) ⌝ }
 {
     first_of(
-        list_answer(systems, 1),
+        list_answer(systems, version, 1),
         first_of(
-            list_answer(vls, 2),
+            list_answer(vls, version, 2),
             first_of(
-                list_answer(streams, 3),
-                first_of(list_answer(ports, 4), list_answer(hops, 5)),
+                list_answer(streams, version, 3),
+                first_of(
+                    list_answer(ports, version, 4),
+                    list_answer(hops, version, 5),
+                ),
             ),
         ),
     )
@@ -104,10 +111,10 @@ fn is_whole(list: &[u64], section: usize) -> bool
 }
 
 // Whether every list is; each end system is one number.
-fn all_whole(delays: &[u64], vls: &[u64], streams: &[u64], ports: &[u64], hops: &[u64]) -> bool
-    ensures { λ r. ⌜ r ≡ whole (lists (now (delays .entry)) [] (now (vls .entry)) (now (streams .entry)) (now (ports .entry)) (now (hops .entry))) ⌝ }
+fn all_whole(header: &[u64], vls: &[u64], streams: &[u64], ports: &[u64], hops: &[u64]) -> bool
+    ensures { λ r. ⌜ r ≡ whole (lists (now (header .entry)) [] (now (vls .entry)) (now (streams .entry)) (now (ports .entry)) (now (hops .entry))) ⌝ }
 {
-    if delays.len() != 4 {
+    if header.len() != HEADER_LIST {
         return false;
     }
     if !is_whole(vls, 2) {
@@ -136,19 +143,19 @@ fn header_fault(f: Fault) -> Answer
     }
 }
 
-// 2: a list that is no whole number of records, a count or a delay out of range.
+// 2: a list that is no whole number of records, a version, a count or a delay out of range.
 fn header_answer(
-    delays: &[u64],
+    header: &[u64],
     systems: &[u64],
     vls: &[u64],
     streams: &[u64],
     ports: &[u64],
     hops: &[u64],
 ) -> Answer
-    ensures { λ r. ⌜ r ≡ given (write2 (lists (now (delays .entry)) (now (systems .entry)) (now (vls .entry)) (now (streams .entry)) (now (ports .entry)) (now (hops .entry)))) ⌝ }
+    ensures { λ r. ⌜ r ≡ given (write2 (lists (now (header .entry)) (now (systems .entry)) (now (vls .entry)) (now (streams .entry)) (now (ports .entry)) (now (hops .entry)))) ⌝ }
 {
-    if all_whole(delays, vls, streams, ports, hops) {
-        let row = header_row(delays, systems, vls, streams, ports, hops);
+    if all_whole(header, vls, streams, ports, hops) {
+        let row = header_row(header, systems, vls, streams, ports, hops);
         return header_fault(layout::fault_of(Way::Writing, 0, row));
     }
     Answer {
@@ -176,7 +183,7 @@ fn room_answer(bytes: usize, room: usize) -> Answer
 
 // 2, 4 and 11, in that order.
 pub fn refusal(
-    delays: &[u64],
+    header: &[u64],
     systems: &[u64],
     vls: &[u64],
     streams: &[u64],
@@ -184,16 +191,19 @@ pub fn refusal(
     hops: &[u64],
     room: usize,
 ) -> Answer
-    ensures { λ r. ⌜ r ≡ writeAnswer (lists (now (delays .entry)) (now (systems .entry)) (now (vls .entry)) (now (streams .entry)) (now (ports .entry)) (now (hops .entry))) room ⌝ }
+    ensures { λ r. ⌜ r ≡ writeAnswer (lists (now (header .entry)) (now (systems .entry)) (now (vls .entry)) (now (streams .entry)) (now (ports .entry)) (now (hops .entry))) room ⌝ }
 {
-    let two = header_answer(delays, systems, vls, streams, ports, hops);
+    let two = header_answer(header, systems, vls, streams, ports, hops);
     let number = two.number;
     if number != 0 {
         return two;
     }
-    let four = records_answer(systems, vls, streams, ports, hops);
+    let four = records_answer(version_of(header), systems, vls, streams, ports, hops);
     first_of(
         four,
-        room_answer(table_bytes(systems, vls, streams, ports, hops), room),
+        room_answer(
+            table_bytes(header, systems, vls, streams, ports, hops),
+            room,
+        ),
     )
 }

@@ -1,4 +1,4 @@
--- `sheet::delays_of` meets its contract: the delays are the first four numbers of the sheet.
+-- `sheet::delays_of` meets its contract: the delays are the numbers of the sheet behind the version.
 -- Assumes nothing.
 use Rattle.sheet.proofs.SheetLaws.{delays-read}
 use borrow.Author.Needs.{needs}

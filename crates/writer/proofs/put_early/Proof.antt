@@ -8,10 +8,10 @@ use Rattle.writer.proofs.put_early.Tie as tie
 
 returns : tie.Need-returns
 returns c =
-    let vls = c .before .before .before .before .before .before .before .before .before .before .before .args .vls .now in
+    let a = c .before .before .before .before .before .before .before .before .before .before .before .args in
     let first = c .before .before .before .before .before .before .put-section .ensures in
     let second = c .before .before .put-section2 .ensures in
-    (second .0 ∙ ap (listEnd vls 2) (first .0), second .1 ∙ ap₂ (withList vls 2) (first .0) (first .1))
+    (second .0 ∙ ap (listEnd (a .version) (a .vls .now) 2) (first .0), second .1 ∙ ap₂ (withList (a .version) (a .vls .now) 2) (first .0) (first .1))
 
 pub put-early-spec : {M : Type 1} → statement M
 put-early-spec =

@@ -12,7 +12,7 @@ returns : tie.Need-returns
 returns c =
     let s = c .before .before .before .before .before .before .before .before .before .before .before .before .before .before in
     let a = s .args in
-    let ls = lists (a .delays .now) (a .systems .now) (a .vls .now) (a .streams .now) (a .ports .now) (a .hops .now) in (
+    let ls = lists (a .header .now) (a .systems .now) (a .vls .now) (a .streams .now) (a .ports .now) (a .hops .now) in (
       c .bytes-in .ensures,
       row-put (headerFor ls) 0 0 0 (a .out .now) _ _ _ (omega arith) (s .pre .1)
           (c .before .before .before .before .before .before .header-row .ensures)

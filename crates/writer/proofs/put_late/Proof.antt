@@ -13,7 +13,7 @@ returns c =
     let second = c .before .before .before .before .before .before .put-section2 .ensures in
     let third = c .before .before .put-section3 .ensures in
     third .1
-    ∙ ap₂ (withList (a .hops .now) 5) (second .0 ∙ ap (listEnd (a .ports .now) 4) (first .0)) (second .1 ∙ ap₂ (withList (a .ports .now) 4) (first .0) (first .1))
+    ∙ ap₂ (withList (a .version) (a .hops .now) 5) (second .0 ∙ ap (listEnd (a .version) (a .ports .now) 4) (first .0)) (second .1 ∙ ap₂ (withList (a .version) (a .ports .now) 4) (first .0) (first .1))
 
 pub put-late-spec : {M : Type 1} → statement M
 put-late-spec =

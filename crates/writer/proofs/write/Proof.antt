@@ -8,9 +8,11 @@ use native.Mathlib.Omega.{arith}
 use lib.ListN.{length, take, replicate}
 use lib.Seq.{length-take-le}
 use Rattle.layout.specs.declared.Way.the-variants.{Writing}
+use Rattle.layout.specs.Layout.{headerNames}
 use Rattle.layout.specs.Rows.{rowFault}
 use Rattle.table.specs.declared.Answer.{Answer}
-use Rattle.table.specs.Write.{Lists, listFor, recordsIn, headerFor, tableSize, writeAnswer}
+use Rattle.table.specs.Write.{headerFor, tableSize, writeAnswer}
+use Rattle.table.specs.Lists.{Lists}
 use Rattle.writer.specs.Writing.{lists}
 use Rattle.writer.proofs.ClearLaws.{zeros-before}
 use Rattle.writer.proofs.RefusalLaws.{accepted-was}
@@ -21,7 +23,7 @@ use Rattle.writer.proofs.write.Statement.{statement}
 use Rattle.writer.proofs.write.Tie as tie
 
 abbrev ls : tie.Start → Lists
-ls s = lists (s .args .delays .now) (s .args .systems .now) (s .args .vls .now) (s .args .streams .now) (s .args .ports .now) (s .args .hops .now)
+ls s = lists (s .args .header .now) (s .args .systems .now) (s .args .vls .now) (s .args .streams .now) (s .args .ports .now) (s .args .hops .now)
 
 -- the answer, whose room is that of the bytes before they were cleared
 answered : (c : tie.After-refusal) → c .refusal .result ≡ writeAnswer (ls (c .before .before .before .before .before .before .before .before .before .before .before .before)) (length (c .before .before .before .before .before .before .before .before .before .before .before .before .args .out .now))
@@ -32,14 +34,12 @@ abbrev start : tie.After-table-bytes → tie.Start
 start c = c .before .before .before .before .before .before .before .before .before .before .before .before .before .before
 
 passed : (c : tie.After-table-bytes)
-    → (length (start c .args .delays .now) ≡ 4)
+    → (length (start c .args .header .now) ≡ length headerNames)
     × (rowFault Writing 0 (headerFor (ls (start c))) ≡ none)
     × (tableSize (ls (start c)) ≤ length (start c .args .out .now))
 passed c = accepted-was (ls (start c)) (length (start c .args .out .now)) (omega (arith, ap (λ (a : Answer). a .number) (answered (c .before .before))))
 
--- the size does not go by the delays
 sized : (c : tie.After-table-bytes) → c .table-bytes .result ≡ tableSize (ls (start c))
-unfolding tableSize recordsIn listFor
 sized c = c .table-bytes .ensures
 
 fits : (c : tie.After-table-bytes) → c .table-bytes .result ≤ length (start c .args .out .now)
@@ -61,7 +61,7 @@ slice-aggregate-fill c = sym (length-take-le (c .before .table-bytes .result) (c
 fill-requires : tie.Need-fill-requires
 fill-requires c κs =
     let p = passed (c .before) in
-    record { delays = p .0; clear = zeros (c .before); short = short (ls (c .before .before .before .before .before .before .before .before .before .before .before .before .before .before .before)) (p .0) (p .1) }
+    record { header-list = p .0; clear = zeros (c .before); short = short (ls (c .before .before .before .before .before .before .before .before .before .before .before .before .before .before .before)) (p .1) }
 
 returns : tie.Need-returns
 returns c =

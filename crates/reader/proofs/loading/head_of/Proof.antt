@@ -1,4 +1,4 @@
--- `reader::loading::head_of` meets its contract: the delays and the counts are the first block.
+-- `reader::loading::head_of` meets its contract: the header's numbers and the counts are the first block.
 -- Assumes nothing.
 use Rattle.reader.proofs.FillLaws.{head-is}
 use borrow.Author.Needs.{needs}
@@ -6,7 +6,7 @@ use Rattle.reader.proofs.loading.head_of.Statement.{statement}
 use Rattle.reader.proofs.loading.head_of.Tie as tie
 
 returns : tie.Need-returns
-returns c = head-is (c .before .before .before .args .table .now) _ _ (c .before .delays-of .ensures) (c .counts-of .ensures)
+returns c = head-is (c .before .before .before .args .table .now) _ _ (c .before .header-list .ensures) (c .counts-of .ensures)
 
 pub head-of-spec : {M : Type 1} → statement M
 head-of-spec =
@@ -14,6 +14,7 @@ head-of-spec =
     (tie.spec
     (λ c κs. search needs)
     (λ c κs. search needs)
+    (λ c. search needs)
     (λ c. search needs)
     (λ c. search needs)
     (λ c. search needs)

@@ -7,7 +7,7 @@ use lib.ListN.{length, take}
 use lib.Seq.{take-all}
 use Rattle.layout.proofs.SizeLaws.{places-are}
 use Rattle.layout.specs.Sizes.{place}
-use Rattle.table.specs.RoundTrip.{unpacked}
+use Rattle.table.specs.Lists.{unpacked}
 use Rattle.sheet.specs.Sheet.{blocks, sheetOf}
 use Rattle.reader.proofs.FillLaws.{head-put, section-put}
 use borrow.Author.Needs.{needs}

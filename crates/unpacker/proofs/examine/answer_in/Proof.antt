@@ -12,10 +12,10 @@ use Rattle.unpacker.proofs.examine.answer_in.Statement.{statement}
 use Rattle.unpacker.proofs.examine.answer_in.Tie as tie
 
 abbrev Inv-loop : tie.InvT-loop
-Inv-loop table section at n i₀ i = (i ≤ n) × GoodTo table section i
+Inv-loop table version section at n i₀ i = (i ≤ n) × GoodTo table section i
 
 abbrev μ-loop : tie.MeasureT-loop
-μ-loop table section at n i₀ i = n - i
+μ-loop table version section at n i₀ i = n - i
 
 loop-holds : tie.Need-loop-holds Inv-loop μ-loop
 loop-holds c = (omega arith, (λ j h. absurd (omega arith)))
@@ -24,9 +24,10 @@ answer-at-requires : tie.Need-answer-at-requires Inv-loop μ-loop
 answer-at-requires c κs =
     let start = c .before .before .before in
     record {
-      known = start .pre .0;
-      begins = start .pre .1;
-      low = omega (arith, rows-few (start .args .table .now) (start .args .section) (start .pre .0));
+      names = start .pre .0;
+      known = start .pre .1;
+      begins = start .pre .2;
+      low = omega (arith, rows-few (start .args .table .now) (start .args .section) (start .pre .1));
     }
 
 returns : tie.Need-returns Inv-loop μ-loop

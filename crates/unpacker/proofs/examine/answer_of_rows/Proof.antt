@@ -6,16 +6,16 @@ use native.Mathlib.Omega.{arith}
 use Rattle.unpacker.proofs.ExamineLaws.{CleanTo}
 use Rattle.table.specs.declared.Answer.{Answer}
 use Rattle.unpacker.proofs.ExamineLaws.{clean-more, length-bad, table-bad, table-good}
-use Rattle.unpacker.proofs.PlaceLaws.{count-there, start-there}
+use Rattle.unpacker.proofs.PlaceLaws.{version-there, count-there, start-there}
 use borrow.Author.Needs.{needs}
 use Rattle.unpacker.proofs.examine.answer_of_rows.Statement.{statement}
 use Rattle.unpacker.proofs.examine.answer_of_rows.Tie as tie
 
 abbrev Inv-loop : tie.InvT-loop
-Inv-loop table starts counts s₀ s = (1 ≤ s) × (s ≤ 6) × CleanTo table s
+Inv-loop table version starts counts s₀ s = (1 ≤ s) × (s ≤ 6) × CleanTo table s
 
 abbrev μ-loop : tie.MeasureT-loop
-μ-loop table starts counts s₀ s = 6 - s
+μ-loop table version starts counts s₀ s = 6 - s
 
 returns : tie.Need-returns Inv-loop μ-loop
 returns c =
@@ -32,7 +32,7 @@ answer-in-requires c κs =
     let bytes = start .args .table .now in
     let p = start .args .places in
     let s = c .before .loop .s in
-    (omega arith, start-there bytes p (start .pre) s (omega arith), count-there bytes p (start .pre) s (omega arith))
+    (version-there bytes p (start .pre), omega arith, start-there bytes p (start .pre) s (omega arith), count-there bytes p (start .pre) s (omega arith))
 
 returns-2 : tie.Need-returns-2 Inv-loop μ-loop
 returns-2 c =

@@ -8,8 +8,11 @@ use Rattle.unpacker.proofs.examine.raw_row.Statement.{statement}
 use Rattle.unpacker.proofs.examine.raw_row.Tie as tie
 
 -- what the place is made of is small
-placed : (c : tie.After-bytes-in) → (c .before .before .args .i * c .bytes-in .result ≤ 57344) × (c .before .before .args .at ≤ 344064)
-placed c = let a = c .before .before .args in row-bytes (a .table .now) (a .section) (a .at) (a .i) _ (c .before .before .pre) (c .bytes-in .ensures)
+placed : (c : tie.After-bytes-in) → (c .before .before .before .args .i * c .bytes-in .result ≤ 57344) × (c .before .before .before .args .at ≤ 344064)
+placed c =
+    let start = c .before .before .before in
+    let a = start .args in
+    row-bytes (a .table .now) (a .version) (a .section) (a .at) (a .i) _ _ (start .pre) (c .before .kind-of .ensures) (c .bytes-in .ensures)
 
 mul-row-at : tie.Need-mul-row-at
 mul-row-at c = omega (arith, placed c)
@@ -22,10 +25,11 @@ mul-row-at-2 c = omega (arith, placed c)
 
 returns : tie.Need-returns
 returns c =
-    let a = c .before .before .before .args in
-    row-is (a .table .now) (a .section) (a .at) (a .i) _ _ (c .before .before .before .pre) (c .before .bytes-in .ensures) (c .row-at .ensures)
+    let start = c .before .before .before .before in
+    let a = start .args in
+    row-is (a .table .now) (a .version) (a .section) (a .at) (a .i) _ _ (start .pre) (c .before .before .kind-of .ensures) (c .before .bytes-in .ensures) _ (c .row-at .ensures)
 
 pub raw-row-spec : {M : Type 1} → statement M
 raw-row-spec =
     tie.close
-    (tie.spec (λ c κs. search needs) mul-row-at add-row-at mul-row-at-2 (λ c κs. search needs) returns)
+    (tie.spec (λ c κs. search needs) (λ c κs. search needs) mul-row-at add-row-at mul-row-at-2 (λ c κs. search needs) returns)

@@ -11,11 +11,11 @@ use Rattle.unpacker.proofs.filling.fill.Statement.{statement}
 use Rattle.unpacker.proofs.filling.fill.Tie as tie
 
 abbrev Inv-loop : tie.InvT-loop
-Inv-loop table section at n out₀ i₀ out i =
+Inv-loop table version section at n out₀ i₀ out i =
     (i ≤ n) × (length out ≡ length out₀) × (out ≡ lent (length out₀) (records table section i))
 
 abbrev μ-loop : tie.MeasureT-loop
-μ-loop table section at n out₀ i₀ out i = n - i
+μ-loop table version section at n out₀ i₀ out i = n - i
 
 loop-holds : tie.Need-loop-holds Inv-loop μ-loop
 loop-holds c =
@@ -27,7 +27,7 @@ add-record-requires c κs =
     let start = c .before .before .before .before .before .before .before .before .before in
     let a = start .args in
     let l = c .before .before .loop in
-    adding (a .table .now) (a .section) (a .at) (l .i) (a .n) (a .out .now) _ (l .out) (start .pre) (c .before .before .before .before .before .clear .ensures) (l .inv .1) (omega arith)
+    adding (a .table .now) (a .section) (a .version) (a .at) (l .i) (a .n) (a .out .now) _ (l .out) (start .pre) (c .before .before .before .before .before .clear .ensures) (l .inv .1) (omega arith)
     (l .inv .2)
 
 loop-again : tie.Need-loop-again Inv-loop μ-loop
@@ -36,7 +36,7 @@ loop-again c =
     let a = start .args in
     let l = c .before .before .before .before .before .loop in
     let next =
-    added (a .table .now) (a .section) (a .at) (l .i) (a .n) (a .out .now) _ (l .out) (start .pre) (c .before .before .before .before .before .before .before .before .clear .ensures) (l .inv .1) (omega arith) _
+    added (a .table .now) (a .section) (a .version) (a .at) (l .i) (a .n) (a .out .now) _ (l .out) (start .pre) (c .before .before .before .before .before .before .before .before .clear .ensures) (l .inv .1) (omega arith) _
     (c .before .before .add-record .ensures) in
     (omega arith, next .0, next .1)
 

@@ -9,12 +9,12 @@ use Rattle.unpacker.proofs.filling.fill_two.Tie as tie
 fill-requires : tie.Need-fill-requires
 fill-requires c κs =
     let start = c .before .before .before .before in
-    filling (start .args .table .now) 4 _ _ _ (omega arith) (start .pre .begin) (start .pre .first)
+    filling (start .args .table .now) _ 4 _ _ _ (start .pre .names) (omega arith) (start .pre .begin) (start .pre .first)
 
 fill-requires-2 : tie.Need-fill-requires-2
 fill-requires-2 c κs =
     let start = c .before .before .before .before .before .before .before .before in
-    filling (start .args .table .now) 5 _ _ _ (omega arith) (start .pre .begin) (start .pre .second)
+    filling (start .args .table .now) _ 5 _ _ _ (start .pre .names) (omega arith) (start .pre .begin) (start .pre .second)
 
 pub fill-two-spec : {M : Type 1} → statement M
 fill-two-spec =

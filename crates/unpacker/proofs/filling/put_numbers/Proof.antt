@@ -11,10 +11,10 @@ use Rattle.unpacker.proofs.filling.put_numbers.Statement.{statement}
 use Rattle.unpacker.proofs.filling.put_numbers.Tie as tie
 
 abbrev Inv-loop : tie.InvT-loop
-Inv-loop out₀ at first n row k₀ out k = (k ≤ n) × (length out ≡ length out₀) × (out ≡ written out₀ at first row k)
+Inv-loop out₀ at n row k₀ out k = (k ≤ n) × (length out ≡ length out₀) × (out ≡ written out₀ at row k)
 
 abbrev μ-loop : tie.MeasureT-loop
-μ-loop out₀ at first n row k₀ out k = n - k
+μ-loop out₀ at n row k₀ out k = n - k
 
 loop-holds : tie.Need-loop-holds Inv-loop μ-loop
 unfolding written
@@ -25,7 +25,7 @@ unfolding written
 loop-again c =
     let a = c .before .before .args in
     let l = c .before .loop in
-    (omega arith, length-set (l .out) (a .at + l .k) (getD (a .t5) (a .first + l .k) 0) ∙ l .inv .1, rw (l .inv .2, add-one (l .k)))
+    (omega arith, length-set (l .out) (a .at + l .k) (getD (a .t4) (l .k) 0) ∙ l .inv .1, rw (l .inv .2, add-one (l .k)))
 
 returns : tie.Need-returns Inv-loop μ-loop
 returns c = let e : c .before .loop .k ≡ c .before .before .args .n = omega arith in rw (← e) (c .before .loop .inv .2)
@@ -37,7 +37,6 @@ put-numbers-spec =
     Inv-loop
     μ-loop
     loop-holds
-    (λ c. search needs)
     (λ c. search needs)
     (λ c. search needs)
     (λ c. search needs)

@@ -11,23 +11,23 @@ use Rattle.writer.proofs.refusals.all_whole.Tie as tie
 
 returns : tie.Need-returns
 unfolding whole
-returns c = rw (ne-eqb (length (c .before .before .before .before .before .before .args .delays .now)) 4 (λ e. omega arith))
+returns c = rw (ne-eqb (length (c .before .before .before .before .before .before .args .header .now)) 5 (λ e. omega arith))
 
 returns-2 : tie.Need-returns-2
 unfolding whole
-returns-2 c = rw (eq-eqb (length (c .before .before .before .before .before .before .before .before .args .delays .now)) 4 (omega arith), sym (c .before .is-whole .ensures) ∙ not-true _ (c .if2 .taken))
+returns-2 c = rw (eq-eqb (length (c .before .before .before .before .before .before .before .before .args .header .now)) 5 (omega arith), sym (c .before .is-whole .ensures) ∙ not-true _ (c .if2 .taken))
 
 returns-3 : tie.Need-returns-3
 unfolding whole
-returns-3 c = rw (eq-eqb (length (c .before .before .before .before .before .before .before .before .before .before .args .delays .now)) 4 (omega arith), sym (c .before .before .before .is-whole .ensures) ∙ not-false _ (c .before .before .if2 .left), sym (c .before .is-whole2 .ensures) ∙ not-true _ (c .if3 .taken))
+returns-3 c = rw (eq-eqb (length (c .before .before .before .before .before .before .before .before .before .before .args .header .now)) 5 (omega arith), sym (c .before .before .before .is-whole .ensures) ∙ not-false _ (c .before .before .if2 .left), sym (c .before .is-whole2 .ensures) ∙ not-true _ (c .if3 .taken))
 
 returns-4 : tie.Need-returns-4
 unfolding whole
-returns-4 c = rw (eq-eqb (length (c .before .before .before .before .before .before .before .before .before .before .before .before .args .delays .now)) 4 (omega arith), sym (c .before .before .before .before .before .is-whole .ensures) ∙ not-false _ (c .before .before .before .before .if2 .left), sym (c .before .before .before .is-whole2 .ensures) ∙ not-false _ (c .before .before .if3 .left), sym (c .before .is-whole3 .ensures) ∙ not-true _ (c .if4 .taken))
+returns-4 c = rw (eq-eqb (length (c .before .before .before .before .before .before .before .before .before .before .before .before .args .header .now)) 5 (omega arith), sym (c .before .before .before .before .before .is-whole .ensures) ∙ not-false _ (c .before .before .before .before .if2 .left), sym (c .before .before .before .is-whole2 .ensures) ∙ not-false _ (c .before .before .if3 .left), sym (c .before .is-whole3 .ensures) ∙ not-true _ (c .if4 .taken))
 
 returns-5 : tie.Need-returns-5
 unfolding whole
-returns-5 c = rw (eq-eqb (length (c .before .before .before .before .before .before .before .before .before .before .before .before .before .args .delays .now)) 4 (omega arith), sym (c .before .before .before .before .before .before .is-whole .ensures) ∙ not-false _ (c .before .before .before .before .before .if2 .left), sym (c .before .before .before .before .is-whole2 .ensures) ∙ not-false _ (c .before .before .before .if3 .left), sym (c .before .before .is-whole3 .ensures) ∙ not-false _ (c .before .if4 .left)) (c .is-whole4 .ensures)
+returns-5 c = rw (eq-eqb (length (c .before .before .before .before .before .before .before .before .before .before .before .before .before .args .header .now)) 5 (omega arith), sym (c .before .before .before .before .before .before .is-whole .ensures) ∙ not-false _ (c .before .before .before .before .before .if2 .left), sym (c .before .before .before .before .is-whole2 .ensures) ∙ not-false _ (c .before .before .before .if3 .left), sym (c .before .before .is-whole3 .ensures) ∙ not-false _ (c .before .if4 .left)) (c .is-whole4 .ensures)
 
 pub all-whole-spec : {M : Type 1} → statement M
 all-whole-spec =

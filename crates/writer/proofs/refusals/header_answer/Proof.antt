@@ -5,15 +5,16 @@ use mathlib.Core.Bool.{Bool, true, false}
 use Rattle.layout.specs.declared.Way.the-variants.{Writing}
 use Rattle.layout.specs.Rows.{rowFault}
 use Rattle.layout.proofs.FaultLaws.{fault-wide}
-use Rattle.table.specs.Write.{Lists, headerFor, whole}
+use Rattle.table.specs.Write.{headerFor, whole}
+use Rattle.table.specs.Lists.{Lists}
 use Rattle.writer.specs.Writing.{lists, headerFault}
-use Rattle.writer.proofs.RefusalLaws.{whole-delays, two-whole, two-broken}
+use Rattle.writer.proofs.RefusalLaws.{whole-header, two-whole, two-broken}
 use borrow.Author.Needs.{needs}
 use Rattle.writer.proofs.refusals.header_answer.Statement.{statement}
 use Rattle.writer.proofs.refusals.header_answer.Tie as tie
 
 abbrev ls : tie.Start → Lists
-ls s = lists (s .args .delays .now) (s .args .systems .now) (s .args .vls .now) (s .args .streams .now) (s .args .ports .now) (s .args .hops .now)
+ls s = lists (s .args .header .now) (s .args .systems .now) (s .args .vls .now) (s .args .streams .now) (s .args .ports .now) (s .args .hops .now)
 
 -- the test does not look at the end systems
 told : (c : tie.After-all-whole) (t : Bool) → c .all-whole .result ≡ t → whole (ls (c .before .before .before .before .before .before .before)) ≡ t
@@ -21,7 +22,7 @@ unfolding whole
 told c t e = sym (c .all-whole .ensures) ∙ e
 
 header-row-requires : tie.Need-header-row-requires
-header-row-requires c κs = whole-delays (ls (c .before .before .before .before .before .before .before .before)) (told (c .before) true (c .if1 .taken))
+header-row-requires c κs = whole-header (ls (c .before .before .before .before .before .before .before .before)) (told (c .before) true (c .if1 .taken))
 
 returns : tie.Need-returns
 returns c =

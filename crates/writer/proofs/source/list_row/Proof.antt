@@ -9,15 +9,15 @@ use Rattle.layout.specs.Contracts.{wide}
 use Rattle.layout.specs.Rows.{listed}
 use Rattle.layout.proofs.LayoutLaws.{few-fields, listed-fields}
 use Rattle.layout.proofs.RowLaws.{wide-start}
-use Rattle.layout.proofs.TurnLaws.{filled-more}
-use Rattle.writer.specs.Writing.{listRow}
-use Rattle.writer.proofs.MeantLaws.{record-inside, length-list-row, row-number, row-numbers}
+use Rattle.layout.proofs.TurnLaws.{filled-more, filled-all}
+use Rattle.writer.specs.Writing.{listNumbers}
+use Rattle.writer.proofs.MeantLaws.{record-inside, length-numbers, number-at}
 use borrow.Author.Needs.{needs}
 use Rattle.writer.proofs.source.list_row.Statement.{statement}
 use Rattle.writer.proofs.source.list_row.Tie as tie
 
 abbrev Inv-loop : tie.InvT-loop
-Inv-loop list section i n first row₀ k₀ row k = (k ≤ n) × (row ≡ wide (take k (listRow list section i)))
+Inv-loop list section i n first row₀ k₀ row k = (k ≤ n) × (row ≡ wide (take k (listNumbers list section i)))
 
 abbrev μ-loop : tie.MeasureT-loop
 μ-loop list section i n first row₀ k₀ row k = n - k
@@ -58,12 +58,12 @@ loop-again c =
     let s = c .before .before .before .before .before in
     let a = s .args in
     let l = c .before .before .loop in
-    let n = length-list-row (a .list .now) (a .section) (a .i) (s .pre) in
-    let v = row-number (a .list .now) (a .section) (a .i) (s .pre) (l .k) (omega (arith, c .before .before .before .numbers-in .ensures)) in (
+    let n = length-numbers (a .list .now) (a .section) (a .i) (s .pre) in
+    let v = number-at (a .list .now) (a .section) (a .i) (s .pre) (l .k) (omega (arith, c .before .before .before .numbers-in .ensures)) in (
       omega arith,
-      filled-more (listRow (a .list .now) (a .section) (a .i)) _ (l .k) _
-          (omega (arith, few-fields (a .section)))
-          (omega (arith, listed-fields (a .section) .0, c .before .before .before .numbers-in .ensures))
+      filled-more (listNumbers (a .list .now) (a .section) (a .i)) _ (l .k) _
+          (omega (arith, few-numbers (c .before .before .before), c .before .before .before .numbers-in .ensures))
+          (omega (arith, c .before .before .before .numbers-in .ensures))
           (l .inv .1)
           (rw (c .before .before .before .numbers-in .ensures) v),
     )
@@ -72,7 +72,9 @@ returns : tie.Need-returns Inv-loop μ-loop
 returns c =
     let s = c .before .before .before .before in
     let l = c .before .loop in
-    row-numbers (s .args .list .now) (s .args .section) (s .args .i) (s .pre) _ (l .k) (omega (arith, c .before .before .numbers-in .ensures)) (l .inv .1)
+    filled-all (listNumbers (s .args .list .now) (s .args .section) (s .args .i)) _ (l .k)
+    (omega (arith, length-numbers (s .args .list .now) (s .args .section) (s .args .i) (s .pre), c .before .before .numbers-in .ensures))
+    (l .inv .1)
 
 pub list-row-spec : {M : Type 1} → statement M
 list-row-spec =

@@ -2,7 +2,8 @@
 -- Assumes nothing.
 use native.Mathlib.Omega.{arith}
 use Rattle.layout.proofs.LayoutLaws.{size-most}
-use Rattle.table.specs.Write.{listFor, recordsIn, tableSize}
+use Rattle.table.specs.Lists.{listFor, recordsIn}
+use Rattle.table.specs.Write.{tableSize}
 use borrow.Author.Needs.{needs}
 use Rattle.writer.proofs.source.table_bytes.Statement.{statement}
 use Rattle.writer.proofs.source.table_bytes.Tie as tie
@@ -32,12 +33,14 @@ returns c =
       c .before .before .section-bytes3 .ensures .0,
       c .before .section-bytes4 .ensures .0,
       c .section-bytes5 .ensures .0,
+      c .before .before .before .before .before .before .version-of .ensures,
     )
 
 pub table-bytes-spec : {M : Type 1} → statement M
 table-bytes-spec =
     tie.close
     (tie.spec
+    (λ c κs. search needs)
     (λ c κs. search needs)
     (λ c κs. search needs)
     add-result

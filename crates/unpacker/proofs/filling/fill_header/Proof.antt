@@ -1,20 +1,20 @@
--- `unpacker::filling::fill_delays` meets its contract: numbers 6 to 9 of the header row, as they are meant.
+-- `unpacker::filling::fill_header` meets its contract: the version and the delays of the header row, as they are meant.
 -- Assumes nothing.
 use mathlib.Core.Path.{sym, ap, _∙_}
 use native.Mathlib.Omega.{arith}
 use lib.ListN.{length}
 use Rattle.table.specs.Sections.{lent}
 use Rattle.table.proofs.LentLaws.{lent-none}
-use Rattle.unpacker.proofs.ListLaws.{cleared-length, no-delays, delays-put}
+use Rattle.unpacker.proofs.ListLaws.{cleared-length, no-header, header-put}
 use borrow.Author.Needs.{needs}
-use Rattle.unpacker.proofs.filling.fill_delays.Statement.{statement}
-use Rattle.unpacker.proofs.filling.fill_delays.Tie as tie
+use Rattle.unpacker.proofs.filling.fill_header.Statement.{statement}
+use Rattle.unpacker.proofs.filling.fill_header.Tie as tie
 
 returns : tie.Need-returns
 returns c =
     let a = c .before .before .before .before .before .before .args in
     let n = length (a .out .now) in
-    c .before .before .before .clear .ensures ∙ sym (lent-none n) ∙ ap (lent n) (sym (no-delays (a .header) (a .n) (c .if1 .taken)))
+    c .before .before .before .clear .ensures ∙ sym (lent-none n) ∙ ap (lent n) (sym (no-header (a .header) (a .n) (c .if1 .taken)))
 
 put-numbers-requires : tie.Need-put-numbers-requires
 put-numbers-requires c κs =
@@ -26,11 +26,11 @@ returns-2 c =
     let a = c .before .before .before .before .before .before .before .before .before .before .before .args in
     let some-is = c .before .before .before .before .before .if1 .left in
     c .before .before .put-numbers .ensures
-    ∙ delays-put (a .header) _ _ (length (a .out .now)) (a .n) (c .before .before .before .before .before .before .before .before .clear .ensures) (c .before .before .before .before .converted-row .ensures) (omega (arith, some-is))
+    ∙ header-put (a .header) _ _ (length (a .out .now)) (a .n) (c .before .before .before .before .before .before .before .before .clear .ensures) (c .before .before .before .header-numbers .ensures) (omega (arith, some-is))
     (omega (arith, some-is))
 
-pub fill-delays-spec : {M : Type 1} → statement M
-fill-delays-spec =
+pub fill-header-spec : {M : Type 1} → statement M
+fill-header-spec =
     tie.close
     (tie.spec
     (λ c κs. search needs)

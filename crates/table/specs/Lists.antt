@@ -1,0 +1,55 @@
+-- The six lists of numbers that a table is unpacked to and written from: the header's, and the records of each section.
+-- The version stands in the header's list, so that it travels with them. Assumes nothing.
+use Prim.Native.Nat.{ℕ, _/_}
+use mathlib.Core.List.{List, [], _∷_, map}
+use lib.ListN.{length, getD}
+use Rattle.layout.specs.declared.Name.{Name}
+use Rattle.layout.specs.declared.Name.the-variants as name
+use Rattle.layout.specs.declared.Way.the-variants.{Reading}
+use Rattle.layout.specs.Names.{indexIn}
+use Rattle.layout.specs.Layout.{layout, kindOf, headerNames}
+use Rattle.layout.specs.Rows.{named, converted, listed}
+use Rattle.table.specs.Sections.{headerRow, rows, records}
+
+pub record Lists : Type 0 where
+  pub header : List ℕ
+  pub systems : List ℕ
+  pub vls : List ℕ
+  pub streams : List ℕ
+  pub ports : List ℕ
+  pub hops : List ℕ
+
+-- the list of a section's records
+unfoldable pub listFor : Lists → ℕ → List ℕ
+listFor ls section = getD ([] ∷ ls .systems ∷ ls .vls ∷ ls .streams ∷ ls .ports ∷ ls .hops ∷ []) section []
+
+-- "takes its counts from its lists"
+unfoldable pub recordsIn : Lists → ℕ → ℕ
+recordsIn ls section = length (listFor ls section) / listed section
+
+-- the header's number of this name
+abbrev pub headerAt : Lists → Name → ℕ
+headerAt ls n = getD (ls .header) (indexIn headerNames n) 0
+
+-- the version, and the kind of record that the table has in a section
+abbrev pub versionFor : Lists → ℕ
+versionFor ls = headerAt ls name.Version
+
+abbrev pub kindFor : Lists → ℕ → ℕ
+kindFor ls section = kindOf (versionFor ls) section
+
+-- ---- of a table
+-- the version, and the delays of sending and receiving
+unfoldable pub headerOf : List ℕ → List ℕ
+headerOf bytes = map (named 0 (converted Reading (layout 0) (headerRow bytes))) headerNames
+
+-- the lists that an accepted table unpacks to
+unfoldable pub unpacked : List ℕ → Lists
+unpacked bytes = record {
+  header = headerOf bytes;
+  systems = records bytes 1 (rows bytes 1);
+  vls = records bytes 2 (rows bytes 2);
+  streams = records bytes 3 (rows bytes 3);
+  ports = records bytes 4 (rows bytes 4);
+  hops = records bytes 5 (rows bytes 5);
+}
