@@ -15,7 +15,8 @@ use Rattle.table.specs.Sections.{lent}
 use Rattle.table.proofs.LentLaws.{lent-none, length-lent}
 use Rattle.answers.specs.Analysis.{joined}
 use Rattle.analysis.specs.Placing.{putAt, Put}
-use Rattle.analysis.proofs.RowLaws.{leavesTo, rowsWith, rowsUpTo, length-rows-with, rows-up-to-all, rows-up-to-hit, rows-fit}
+use Rattle.figures.proofs.CountLaws.{leavesTo, rowsWith, length-rows-with}
+use Rattle.analysis.proofs.RowLaws.{rowsUpTo, rows-up-to-all, rows-up-to-hit, rows-fit}
 
 -- ---- rows one after the other
 joined-append : (a b : List (List ℕ)) → joined (a ++ b) ≡ joined a ++ joined b
@@ -123,6 +124,8 @@ pub put-no-rows : (net : Network) (result : List ℕ) → result ≡ replicate (
 unfolding rowsTo joined
 put-no-rows net result e = record { place = refl; holds = e ∙ sym (lent-none (length result)) }
 
-pub put-all-rows : (net : Network) (s at n : ℕ) (result : List ℕ) → s ≡ length (net .streams) → Put net s at n result → result ≡ lent n (joined (rowsOf net))
+pub put-all-rows : (net : Network) (s at n : ℕ) (result : List ℕ) → s ≡ length (net .streams) → Put net s at n result
+    → (at ≡ 6 * length (rowsOf net)) × (result ≡ lent n (joined (rowsOf net)))
 unfolding rowsOf
-put-all-rows net s at n result e p = p .holds ∙ ap (λ (m : ℕ). lent n (joined (rowsTo net m))) e
+put-all-rows net s at n result e p =
+    (p .place ∙ ap (λ (m : ℕ). 6 * length (rowsTo net m)) e, p .holds ∙ ap (λ (m : ℕ). lent n (joined (rowsTo net m))) e)

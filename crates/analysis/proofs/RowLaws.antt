@@ -21,97 +21,22 @@ use Rattle.base.proofs.LeastLaws.{least-is, least-none, least-was, none-was, le
 use Rattle.base.proofs.TabulateLaws.{passing-hit, passing-miss, passing-by}
 use Rattle.base.proofs.TestLaws.{some-is}
 use Rattle.frame.specs.Packets.{packets}
-use Rattle.network.specs.Network.{Network, vlAt, streamAt, portAt, hopAt, parentAt}
+use Rattle.frame.proofs.FrameLaws.{least-line-is}
+use Rattle.network.specs.declared.EndSystem.{EndSystem}
+use Rattle.network.specs.declared.Vl.{Vl}
+use Rattle.network.specs.Network.{Network, systemAt, vlAt, streamAt, portAt, hopAt, parentAt}
 use Rattle.network.specs.Views.{routeOf, isParent, leaf, leavesOf, route}
 use Rattle.network.proofs.RouteLaws.{route-of-root, route-of-child}
 use Rattle.rows.specs.Links.{sendMost, sendLine, muxWait, hopLine}
 use Rattle.rows.specs.Queues.{queueFigure}
-use Rattle.rows.specs.Ports.{portFigure, jitterOf}
+use Rattle.rows.specs.Ports.{portFigure, jitterOf, figureOf}
 use Rattle.rows.specs.Rows.{queueOf, worst, best, rowJitter, rowOf, rowsTo, rowsOf}
-use Rattle.rows.proofs.PortLaws.{figure-of-port}
 use Rattle.rows.proofs.RowLaws.{mostAt, leastAt, worst-sum, best-sum}
-use Rattle.analysis.specs.Computing.{Waits, Queues, Figures, Leaves}
+use Rattle.figures.proofs.CountLaws.{isDestination, leavesTo, leaves-of-all, leaves-to-hit, leaves-to-other, leaves-to-inner, rowsWith, length-rows-with, rows-more, length-rows-more}
+use Rattle.figures.proofs.LinkLaws.{send-least-is, hop-least-is}
 use Rattle.analysis.specs.Placing.{routeMost, routeLeast}
 
--- ---- one number more at the end of those that a least is looked for among
-pub least-more-hit : (p : ℕ → Bool) (n : ℕ) → p n ≡ true → isSome (leastFrom p 0 (n + 1)) ≡ true
-least-more-hit p n here =
-    let r = least-exists p 0 (n + 1) n (omega arith) (omega arith) here in
-    some-is (leastFrom p 0 (n + 1)) (r .at) (r .is)
-
-pub least-more-miss : (p : ℕ → Bool) (n : ℕ) → p n ≡ false → leastFrom p 0 (n + 1) ≡ leastFrom p 0 n
-least-more-miss p n here = go (leastFrom p 0 n) refl
-  where
-    go : (o : Option ℕ) → leastFrom p 0 n ≡ o → leastFrom p 0 (n + 1) ≡ o
-    go none e = least-none p 0 (n + 1)
-        (λ i a b. ⊎-elim
-        (λ (s : suc i ≡ n + 1). let same : i ≡ n = omega arith in ap p same ∙ here)
-        (λ (l : suc i < n + 1). none-was p 0 n i e a (omega arith))
-        (eq-or-lt-of-le (omega arith)))
-    go (some j) e = let r = least-was p 0 n j e in least-is p 0 (n + 1) j (r .low) (omega (arith, r .high)) (r .passes) (r .fails)
-
 module _ (net : Network) where
-  -- ---- the leaves, where the first n hops are looked at
-  -- whether hop h is the parent of one of them
-  abbrev pub isParentBelow : ℕ → ℕ → Bool
-  isParentBelow n h = isSome (leastFrom (λ g. isParent h (parentAt net g)) 0 n)
-
-  abbrev pub LeavesTo : ℕ → List Bool → Type 0
-  LeavesTo n leaves = (h : ℕ) → h < length (net .hops) → getD leaves h false ≡ not (isParentBelow n h)
-
-  pub leaves-start : length (net .hops) ≤ 1024 → LeavesTo 0 (replicate 1024 true)
-  unfolding leastFrom isSome
-  leaves-start few h l = getD-replicate 1024 h true false (omega arith)
-
-  pub leaves-at-root : (n : ℕ) (leaves : List Bool) → parentAt net n ≡ none → LeavesTo n leaves → LeavesTo (n + 1) leaves
-  unfolding isParent
-  leaves-at-root n leaves e all h l =
-      all h l ∙ ap (λ (o : Option ℕ). not (isSome o)) (sym (least-more-miss (λ g. isParent h (parentAt net g)) n (ap (isParent h) e)))
-
-  pub leaves-at-child :
-      (n g : ℕ) (leaves : List Bool) → parentAt net n ≡ some g → length (net .hops) ≤ length leaves → LeavesTo n leaves
-      → LeavesTo (n + 1) (set leaves g false)
-  unfolding isParent
-  leaves-at-child n g leaves e room all h l = elim (ℕ-discrete h g) [
-    | yes same ↦
-        let hit : isParent h (parentAt net n) ≡ true = ap (isParent h) e ∙ eq-eqb g h (sym same) in
-        ap (λ (i : ℕ). getD (set leaves g false) i false) same
-        ∙ getD-set-same leaves g false false (omega arith)
-        ∙ ap not (sym (least-more-hit (λ g. isParent h (parentAt net g)) n hit))
-    | no other ↦
-        let miss : isParent h (parentAt net n) ≡ false = ap (isParent h) e ∙ ne-eqb g h (λ s. other (sym s)) in
-        getD-set-other leaves g h false false other
-        ∙ all h l
-        ∙ ap (λ (o : Option ℕ). not (isSome o)) (sym (least-more-miss (λ g. isParent h (parentAt net g)) n miss))
-  ]
-
-  pub leaves-all : (n : ℕ) (leaves : List Bool) → n ≡ length (net .hops) → LeavesTo n leaves → Leaves net leaves
-  unfolding leaf
-  leaves-all n leaves e all = record { leaf-is = λ h l. all h l ∙ ap (λ (m : ℕ). not (isParentBelow m h)) e }
-
-  -- ---- the destinations of VL v among the first n hops
-  abbrev isDestination : ℕ → ℕ → Bool
-  isDestination v h = eqb (hopAt net h .vl) v && leaf net h
-
-  abbrev pub leavesTo : ℕ → ℕ → List ℕ
-  leavesTo v n = passing (isDestination v) n
-
-  pub leaves-of-all : (v n : ℕ) → n ≡ length (net .hops) → leavesTo v n ≡ leavesOf net v
-  unfolding leavesOf
-  leaves-of-all v n e = ap (leavesTo v) e
-
-  pub leaves-to-hit : (v n : ℕ) → hopAt net n .vl ≡ v → leaf net n ≡ true → leavesTo v (n + 1) ≡ leavesTo v n ++ (n ∷ [])
-  leaves-to-hit v n e t = rw (add-one n) (passing-hit (isDestination v) n (ap₂ _&&_ (eq-eqb (hopAt net n .vl) v e) t))
-
-  pub leaves-to-other : (v n : ℕ) → (hopAt net n .vl ≡ v → ⊥) → leavesTo v (n + 1) ≡ leavesTo v n
-  leaves-to-other v n e =
-      rw (add-one n) (passing-miss (isDestination v) n (ap (λ (b : Bool). b && leaf net n) (ne-eqb (hopAt net n .vl) v e)))
-
-  pub leaves-to-inner : (v n : ℕ) → leaf net n ≡ false → leavesTo v (n + 1) ≡ leavesTo v n
-  leaves-to-inner v n t =
-      let here = eqb (hopAt net n .vl) v in
-      rw (add-one n) (passing-miss (isDestination v) n (ap (λ (b : Bool). here && b) t ∙ and-false here))
-
   -- ---- what a route adds up to
   module _ (f : ℕ → ℕ) where
     -- over the n hops at most from hop g on
@@ -142,29 +67,21 @@ module _ (net : Network) where
   unfolding routeLeast route
   route-least-is h = refl
 
-  -- as they are read: the port's delay and the figure noted for it; the hop's frame and the port's delay
-  pub most-read : (figures : List ℕ) (g p d : ℕ) → Figures net figures (length (net .ports)) → p < length (net .ports) → p ≡ hopAt net g .port
-      → d ≡ portAt net p .greatest → d + getD figures p 0 ≡ mostAt net g
-  most-read figures g p d known l e f =
-      ap₂ _+_ (f ∙ ap (λ (q : ℕ). portAt net q .greatest) e) (known .figure-is p l ∙ ap (portFigure net (jitterOf net)) e ∙ sym (figure-of-port net g))
+  -- as they are read: the port's greatest delay and the hop's figure; a least frame and the port's least delay
+  pub most-read : (g p d figure : ℕ) → p ≡ hopAt net g .port → d ≡ portAt net p .greatest → figure ≡ figureOf net g → d + figure ≡ mostAt net g
+  most-read g p d figure e f k = ap₂ _+_ (f ∙ ap (λ (q : ℕ). portAt net q .greatest) e) k
 
-  pub least-read : (g p line d : ℕ) → p ≡ hopAt net g .port → line ≡ hopLine net g → d ≡ portAt net p .least → line + d ≡ leastAt net g
-  least-read g p line d e f k = ap₂ _+_ f (k ∙ ap (λ (q : ℕ). portAt net q .least) e)
+  pub least-read : (g p per d : ℕ) → p ≡ hopAt net g .port → per ≡ portAt net p .perbyte → d ≡ portAt net p .least → 84 * per + d ≡ leastAt net g
+  least-read g p per d e f k = rw (k, f, e, hop-least-is net g, least-line-is)
 
   -- ---- the figures of a row as they are read
-  pub queue-read : (queues : List ℕ) (s v k : ℕ) → Queues net queues (length (net .vls)) → v < length (net .vls) → k < vlAt net v .sublinks
-      → v ≡ streamAt net s .vl → k ≡ streamAt net s .sublink → getD queues (v * 4 + k) 0 ≡ queueOf net s
-  unfolding queueOf
-  queue-read queues s v k known l there e f =
-      known .queues-of v l .queue-is k there ∙ ap₂ (queueFigure net) e f
-
-  pub wait-read : (waits : List ℕ) (v u : ℕ) → Waits net waits → v < length (net .vls) → v ≡ u → getD waits v 0 ≡ muxWait net u
-  wait-read waits v u known l e = known .wait-is v l ∙ ap (muxWait net) e
-
   pub gaps-read : (s v p size lmax gap : ℕ) → v ≡ streamAt net s .vl → p ≡ packets size lmax → size ≡ streamAt net s .least → lmax ≡ vlAt net v .lmax
       → gap ≡ vlAt net v .gap
       → (p - 1) * gap ≡ (packets (streamAt net s .least) (vlAt net (streamAt net s .vl) .lmax) - 1) * vlAt net (streamAt net s .vl) .gap
   gaps-read s v p size lmax gap e f g i j = rw (f, g, i, j, e)
+
+  pub send-read : (v : ℕ) (vl : Vl) (system : EndSystem) → vl ≡ vlAt net v → system ≡ systemAt net (vl .system) → 84 * system .perbyte ≡ sendLine net v
+  send-read v vl system is on = rw (on, is, send-least-is net v, least-line-is)
 
   pub row-read : (s h q w b jitter d : ℕ) → q ≡ queueOf net s → w ≡ worst net s h → b ≡ best net s h → jitter ≡ streamAt net s .jitter → d ≡ w - b
       → s ∷ h ∷ q ∷ w ∷ b ∷ (jitter + d) ∷ [] ≡ rowOf net s h
@@ -183,55 +100,41 @@ module _ (net : Network) where
   best-is = best-sum net
 
   -- ---- the rows
-  -- of the first s streams, and of stream s those at these hops
-  abbrev pub rowsWith : ℕ → List ℕ → List (List ℕ)
-  rowsWith s hs = rowsTo net s ++ map (rowOf net s) hs
-
-  -- and of stream s those up to hop h
+  -- of the first s streams, and of stream s those up to hop h
   abbrev pub rowsUpTo : ℕ → ℕ → List (List ℕ)
-  rowsUpTo s h = rowsWith s (leavesTo (streamAt net s .vl) h)
-
-  pub length-rows-with : (s : ℕ) (hs : List ℕ) → length (rowsWith s hs) ≡ length (rowsTo net s) + length hs
-  length-rows-with s hs = length-append (rowsTo net s) (map (rowOf net s) hs) ∙ ap (λ (n : ℕ). length (rowsTo net s) + n) (length-map hs (rowOf net s))
-
-  rows-more : (s : ℕ) → rowsTo net (s + 1) ≡ rowsWith s (leavesOf net (streamAt net s .vl))
-  unfolding rowsTo
-  rows-more s = rw (add-one s)
-
-  pub length-rows-more : (s : ℕ) → length (rowsTo net (s + 1)) ≡ length (rowsTo net s) + length (leavesOf net (streamAt net s .vl))
-  length-rows-more s = ap length (rows-more s) ∙ length-rows-with s (leavesOf net (streamAt net s .vl))
+  rowsUpTo s h = rowsWith net s (leavesTo net (streamAt net s .vl) h)
 
   pub rows-up-to-all : (s h : ℕ) → h ≡ length (net .hops) → rowsUpTo s h ≡ rowsTo net (s + 1)
-  rows-up-to-all s h e = ap (rowsWith s) (leaves-of-all (streamAt net s .vl) h e) ∙ sym (rows-more s)
+  rows-up-to-all s h e = ap (rowsWith net s) (leaves-of-all net (streamAt net s .vl) h e) ∙ sym (rows-more net s)
 
   pub rows-up-to-hit : (s h : ℕ) → hopAt net h .vl ≡ streamAt net s .vl → leaf net h ≡ true → rowsUpTo s (h + 1) ≡ rowsUpTo s h ++ (rowOf net s h ∷ [])
   rows-up-to-hit s h e t =
-      let before = leavesTo (streamAt net s .vl) h in
-      ap (rowsWith s) (leaves-to-hit (streamAt net s .vl) h e t)
+      let before = leavesTo net (streamAt net s .vl) h in
+      ap (rowsWith net s) (leaves-to-hit net (streamAt net s .vl) h e t)
       ∙ ap (λ (rows : List (List ℕ)). rowsTo net s ++ rows) (map-append (rowOf net s) before (h ∷ []))
       ∙ sym (append-assoc (rowsTo net s) (map (rowOf net s) before) (rowOf net s h ∷ []))
 
   pub rows-up-to-other : (s h : ℕ) → (hopAt net h .vl ≡ streamAt net s .vl → ⊥) → rowsUpTo s (h + 1) ≡ rowsUpTo s h
-  rows-up-to-other s h e = ap (rowsWith s) (leaves-to-other (streamAt net s .vl) h e)
+  rows-up-to-other s h e = ap (rowsWith net s) (leaves-to-other net (streamAt net s .vl) h e)
 
   pub rows-up-to-inner : (s h : ℕ) → leaf net h ≡ false → rowsUpTo s (h + 1) ≡ rowsUpTo s h
-  rows-up-to-inner s h t = ap (rowsWith s) (leaves-to-inner (streamAt net s .vl) h t)
+  rows-up-to-inner s h t = ap (rowsWith net s) (leaves-to-inner net (streamAt net s .vl) h t)
 
   -- there are no more of them than of all
   rows-grow : (s n : ℕ) → length (rowsTo net s) ≤ length (rowsTo net (s + n))
   rows-grow s zero = let e : s + 0 ≡ s = omega arith in rw e (omega arith)
   rows-grow s (suc n) =
       let e : s + suc n ≡ s + n + 1 = omega arith in
-      rw e (omega (arith, rows-grow s n, length-rows-more (s + n)))
+      rw e (omega (arith, rows-grow s n, length-rows-more net (s + n)))
 
-  leaves-grow : (v h n : ℕ) → length (leavesTo v h) ≤ length (leavesTo v (h + n))
+  leaves-grow : (v h n : ℕ) → length (leavesTo net v h) ≤ length (leavesTo net v (h + n))
   leaves-grow v h zero = let e : h + 0 ≡ h = omega arith in rw e (omega arith)
   leaves-grow v h (suc n) =
       let e : h + suc n ≡ suc (h + n) = omega arith in
       let before = leaves-grow v h n in
       rw e
-      (passing-by (λ (l : List ℕ). length (leavesTo v h) ≤ length l) (isDestination v) (h + n)
-      (λ k. omega (arith, length-append (leavesTo v (h + n)) ((h + n) ∷ [])))
+      (passing-by (λ (l : List ℕ). length (leavesTo net v h) ≤ length l) (isDestination net v) (h + n)
+      (λ k. omega (arith, length-append (leavesTo net v (h + n)) ((h + n) ∷ [])))
       (λ k. before))
 
   pub rows-fit : (s h : ℕ) → s < length (net .streams) → h ≤ length (net .hops) → length (rowsUpTo s h) ≤ length (rowsOf net)
@@ -242,8 +145,8 @@ module _ (net : Network) where
       let there : s + 1 + (length (net .streams) - (s + 1)) ≡ length (net .streams) = omega arith in
       omega (
         arith,
-        length-rows-with s (leavesTo v h),
+        length-rows-with net s (leavesTo net v h),
         rw here at (leaves-grow v h (length (net .hops) - h)),
-        length-rows-more s,
+        length-rows-more net s,
         rw there at (rows-grow (s + 1) (length (net .streams) - (s + 1))),
       )

@@ -2,8 +2,8 @@
 -- Assumes nothing.
 use mathlib.Core.Path.{sym, _∙_}
 use Rattle.base.specs.Settles.{Settles}
-use Rattle.analysis.proofs.judging.analyse.Kinds as analyse-kinds
-use Rattle.analysis.proofs.judging.analyse.Reads as analyse-reads
+use Rattle.analysis.proofs.analysing.analyse.Kinds as analyse-kinds
+use Rattle.analysis.proofs.analysing.analyse.Reads as analyse-reads
 
 pub analyse-settles : Settles 2 analyse-kinds.ps analyse-kinds.r analyse-reads.Post
 analyse-settles κs a x y ws vs p q = (

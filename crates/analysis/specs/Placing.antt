@@ -4,16 +4,18 @@ use Prim.Native.Nat.{ℕ, _+_, _*_, _≤_, _<_}
 use mathlib.Core.Bool.{Bool}
 use mathlib.Core.List.{List, _++_, map}
 use mathlib.Core.Path.{_≡_}
-use lib.ListN.{length, take, drop, replicate}
+use lib.ListN.{length, getD, take, drop, replicate}
 use Rattle.base.specs.Tabulate.{total}
-use Rattle.network.specs.Network.{Network, hopAt, portAt}
+use Rattle.network.specs.Network.{Network, vlAt, hopAt, portAt}
 use Rattle.rows.specs.Links.{hopLine}
+use Rattle.rows.specs.Queues.{queueFigure}
 use Rattle.rows.specs.Ports.{figureOf}
 use Rattle.rows.specs.Rows.{rowsTo, rowsOf}
 use Rattle.table.specs.Sections.{lent}
 use Rattle.answers.specs.Analysis.{joined}
 use Rattle.sheet.specs.Sheet.{networkOn, Good}
-use Rattle.analysis.specs.Computing.{Waits, Queues, Figures, Leaves}
+use Rattle.sheet.specs.Walks.{leavesOn}
+use Rattle.figures.specs.Judging.{Computed}
 
 -- the numbers of a row at a place of the lent result
 unfoldable pub putAt : List ℕ → ℕ → List ℕ → List ℕ
@@ -27,11 +29,24 @@ unfoldable pub routeLeast : Network → List ℕ → ℕ
 routeLeast net hs = total (map (λ g. hopLine net g + portAt net (hopAt net g .port) .least) hs)
 
 -- all that is computed before the rows
-pub record Known (sheet waits queues figures : List ℕ) : Type 0 where
+pub record Known (sheet waits queues hops : List ℕ) : Type 0 where
   pub good : Good sheet
-  pub waits-are : Waits (networkOn sheet) waits
-  pub queues-are : Queues (networkOn sheet) queues (length (networkOn sheet .vls))
-  pub figures-are : Figures (networkOn sheet) figures (length (networkOn sheet .ports))
+  pub computed : Computed (networkOn sheet) waits queues hops
+
+-- what a route, a queue and a row ask for
+pub record HopsKnown (sheet hops : List ℕ) (h : ℕ) : Type 0 where
+  pub good : Good sheet
+  pub row : h < length (networkOn sheet .hops)
+  pub figure-is : (g : ℕ) → g < length (networkOn sheet .hops) → getD hops g 0 ≡ figureOf (networkOn sheet) g
+
+pub record QueuesKnown (sheet queues : List ℕ) (s : ℕ) : Type 0 where
+  pub good : Good sheet
+  pub row : s < length (networkOn sheet .streams)
+  pub queue-is : (v k : ℕ) → v < length (networkOn sheet .vls) → k < vlAt (networkOn sheet) v .sublinks → getD queues (v * 4 + k) 0 ≡ queueFigure (networkOn sheet) v k
+
+pub record Destination (net : Network) (s h : ℕ) : Type 0 where
+  pub stream-there : s < length (net .streams)
+  pub hop-there : h < length (net .hops)
 
 -- a lent result that is zero and has room for all rows
 pub record Room (net : Network) (result : List ℕ) : Type 0 where
@@ -43,9 +58,9 @@ pub record Put (net : Network) (s at n : ℕ) (result : List ℕ) : Type 0 where
   pub place : at ≡ 6 * length (rowsTo net s)
   pub holds : result ≡ lent n (joined (rowsTo net s))
 
-pub record Putting (sheet waits queues figures : List ℕ) (leaves : List Bool) (s at : ℕ) (result : List ℕ) : Type 0 where
-  pub known : Known sheet waits queues figures
-  pub leaves-are : Leaves (networkOn sheet) leaves
+pub record Putting (sheet waits queues hops : List ℕ) (leaves : List Bool) (s at : ℕ) (result : List ℕ) : Type 0 where
+  pub known : Known sheet waits queues hops
+  pub leaves-are : leaves ≡ leavesOn sheet
   pub stream-there : s < length (networkOn sheet .streams)
   pub before : Put (networkOn sheet) s at (length result) result
   pub fits : 6 * length (rowsOf (networkOn sheet)) ≤ length result

@@ -1,10 +1,7 @@
 // The result rows: for each stream in order, each hop of its VL that is nobody's parent, in order.
 // The figures are computed before; a row only adds them up along its route.
-use crate::links;
-use crate::ports;
-use crate::queues;
+use frame::Frame;
 use layout::sizes::MOST_HOPS;
-use layout::sizes::MOST_PORTS;
 use layout::sizes::MOST_SUBLINKS;
 use layout::sizes::MOST_VLS;
 use layout::sizes::QUEUES;
@@ -12,78 +9,20 @@ use layout::sizes::SHEET;
 use network::Parent;
 ghost use mathlib.Core.Path.{_≡_};
 ghost use Prim.Native.Nat.{_<_, _≤_, _+_, _*_};
-ghost use lib.ListN.{length, replicate};
-ghost use Rattle.network.specs.Network.{streamAt};
+ghost use lib.ListN.{length};
 ghost use Rattle.table.specs.Sections.{lent};
-ghost use Rattle.network.specs.Views.{leavesOf, route};
-ghost use Rattle.rows.specs.Rows.{queueOf, worst, best, rowOf, rowsTo, rowsOf};
+ghost use Rattle.network.specs.Views.{route};
+ghost use Rattle.rows.specs.Links.{sendMost};
+ghost use Rattle.rows.specs.Rows.{queueOf, worst, best, rowOf, rowsOf};
 ghost use Rattle.answers.specs.Analysis.{joined};
 ghost use Rattle.sheet.specs.Sheet.{networkOn, Good};
-ghost use Rattle.analysis.specs.Computing.{Queues, Figures, Leaves};
-ghost use Rattle.analysis.specs.Placing.{Known, Putting, Put, Room, putAt, routeMost, routeLeast};
-
-// ---- the destinations
-
-// Whether each hop is nobody's parent.
-pub fn leaves(net: &[u64; SHEET]) -> [bool; MOST_HOPS]
-    requires { ⌜ Good (now net) ⌝ }
-    ensures { λ r. ⌜ Leaves (networkOn (now (net .entry))) r ⌝ }
-{
-    let mut leaves = [true; MOST_HOPS];
-    let n = sheet::hops_in(net);
-    let mut h = 0;
-    while h < n {
-        let hop = sheet::hop_at(net, h);
-        let parent = hop.parent;
-        if let Parent::After(g) = parent {
-            leaves[g] = false;
-        }
-        h += 1;
-    }
-    leaves
-}
-
-// The destinations of VL v.
-fn leaves_of(net: &[u64; SHEET], leaves: &[bool; MOST_HOPS], v: usize) -> usize
-    requires { ⌜ Good (now net) × Leaves (networkOn (now net)) (now leaves) ⌝ }
-    ensures { λ r. ⌜ (r ≡ length (leavesOf (networkOn (now (net .entry))) v)) × (r ≤ 1024) ⌝ }
-{
-    let n = sheet::hops_in(net);
-    let mut count = 0;
-    let mut h = 0;
-    while h < n {
-        let hop = sheet::hop_at(net, h);
-        if hop.vl == v {
-            if leaves[h] {
-                count += 1;
-            }
-        }
-        h += 1;
-    }
-    count
-}
-
-// How many rows there are.
-pub fn row_count(net: &[u64; SHEET], leaves: &[bool; MOST_HOPS]) -> usize
-    requires { ⌜ Good (now net) × Leaves (networkOn (now net)) (now leaves) ⌝ }
-    ensures { λ r. ⌜ (r ≡ length (rowsOf (networkOn (now (net .entry))))) × (r ≤ 524288) ⌝ }
-{
-    let n = sheet::streams_in(net);
-    let mut count = 0;
-    let mut s = 0;
-    while s < n {
-        let stream = sheet::stream_at(net, s);
-        count += leaves_of(net, leaves, stream.vl);
-        s += 1;
-    }
-    count
-}
+ghost use Rattle.analysis.specs.Placing.{Known, HopsKnown, QueuesKnown, Destination, Putting, Put, Room, putAt, routeMost, routeLeast};
 
 // ---- a row
 
 // What the route of hop h adds at most: the greatest switch delay and the figure of each port.
-fn route_most(net: &[u64; SHEET], figures: &[u64; MOST_PORTS], h: usize) -> u64
-    requires { ⌜ Good (now net) × (h < length (networkOn (now net) .hops)) × Figures (networkOn (now net)) (now figures) (length (networkOn (now net) .ports)) ⌝ }
+fn route_most(net: &[u64; SHEET], hops: &[u64; MOST_HOPS], h: usize) -> u64
+    requires { ⌜ HopsKnown (now net) (now hops) h ⌝ }
     ensures { λ r. ⌜ (r ≡ routeMost (networkOn (now (net .entry))) (route (networkOn (now (net .entry))) h)) × (r ≤ 1000010000) ⌝ }
 {
     let mut sum = 0u64;
@@ -91,9 +30,8 @@ fn route_most(net: &[u64; SHEET], figures: &[u64; MOST_PORTS], h: usize) -> u64
     let mut g = h;
     while 0 < left {
         let hop = sheet::hop_at(net, g);
-        let p = hop.port;
-        let port = sheet::port_at(net, p);
-        sum += port.greatest + figures[p];
+        let port = sheet::port_at(net, hop.port);
+        sum += port.greatest + hops[g];
         let parent = hop.parent;
         let Parent::After(above) = parent else {
             return sum;
@@ -115,7 +53,7 @@ fn route_least(net: &[u64; SHEET], h: usize) -> u64
     while 0 < left {
         let hop = sheet::hop_at(net, g);
         let port = sheet::port_at(net, hop.port);
-        sum += ports::hop_least(net, g) + port.least;
+        sum += Frame::LEAST_LINE * port.perbyte + port.least;
         let parent = hop.parent;
         let Parent::After(above) = parent else {
             return sum;
@@ -128,7 +66,7 @@ fn route_least(net: &[u64; SHEET], h: usize) -> u64
 
 // The queue figure of stream s's sub-link.
 fn queue_of(net: &[u64; SHEET], queues: &[u64; QUEUES], s: usize) -> u64
-    requires { ⌜ Good (now net) × (s < length (networkOn (now net) .streams)) × Queues (networkOn (now net)) (now queues) (length (networkOn (now net) .vls)) ⌝ }
+    requires { ⌜ QueuesKnown (now net) (now queues) s ⌝ }
     ensures { λ r. ⌜ (r ≡ queueOf (networkOn (now (net .entry))) s) × (r ≤ 125000000) ⌝ }
 {
     let stream = sheet::stream_at(net, s);
@@ -136,33 +74,45 @@ fn queue_of(net: &[u64; SHEET], queues: &[u64; QUEUES], s: usize) -> u64
     queues[at]
 }
 
+// The most ticks that a frame of VL v takes on its end system's link.
+fn send_most(net: &[u64; SHEET], v: usize) -> u64
+    requires { ⌜ Good (now net) × (v < length (networkOn (now net) .vls)) ⌝ }
+    ensures { λ r. ⌜ (r ≡ sendMost (networkOn (now (net .entry))) v) × (r ≤ 15380) ⌝ }
+{
+    let vl = sheet::vl_at(net, v);
+    let system = sheet::system_at(net, vl.system);
+    figures::line(vl.lmax) * system.perbyte
+}
+
 fn worst_of(
     net: &[u64; SHEET],
     waits: &[u64; MOST_VLS],
     queues: &[u64; QUEUES],
-    figures: &[u64; MOST_PORTS],
+    hops: &[u64; MOST_HOPS],
     s: usize,
     h: usize,
 ) -> u64
-    requires { ⌜ Known (now net) (now waits) (now queues) (now figures) × (s < length (networkOn (now net) .streams)) × (h < length (networkOn (now net) .hops)) ⌝ }
+    requires { ⌜ Known (now net) (now waits) (now queues) (now hops) × Destination (networkOn (now net)) s h ⌝ }
     ensures { λ r. ⌜ (r ≡ worst (networkOn (now (net .entry))) s h) × (r ≤ 1200000000) ⌝ }
 {
     let d = sheet::delays_of(net);
     let stream = sheet::stream_at(net, s);
     let v = stream.vl;
-    let sent = d.send_greatest + queue_of(net, queues, s) + waits[v] + links::send_most(net, v);
-    sent + route_most(net, figures, h) + d.receive_greatest
+    let sent = d.send_greatest + queue_of(net, queues, s) + waits[v] + send_most(net, v);
+    sent + route_most(net, hops, h) + d.receive_greatest
 }
 
 fn best_of(net: &[u64; SHEET], s: usize, h: usize) -> u64
-    requires { ⌜ Good (now net) × (s < length (networkOn (now net) .streams)) × (h < length (networkOn (now net) .hops)) ⌝ }
+    requires { ⌜ Good (now net) × Destination (networkOn (now net)) s h ⌝ }
     ensures { λ r. ⌜ r ≡ best (networkOn (now (net .entry))) s h ⌝ }
 {
     let d = sheet::delays_of(net);
     let stream = sheet::stream_at(net, s);
     let vl = sheet::vl_at(net, stream.vl);
-    let gaps = (queues::packets(stream.least, vl.lmax) - 1) * vl.gap;
-    d.send_least + gaps + links::send_least(net, stream.vl) + route_least(net, h) + d.receive_least
+    let system = sheet::system_at(net, vl.system);
+    let gaps = (figures::packets(stream.least, vl.lmax) - 1) * vl.gap;
+    let sent = d.send_least + gaps + Frame::LEAST_LINE * system.perbyte;
+    sent + route_least(net, h) + d.receive_least
 }
 
 // Stream, hop, queue, worst, best, jitter.
@@ -170,18 +120,18 @@ fn row_of(
     net: &[u64; SHEET],
     waits: &[u64; MOST_VLS],
     queues: &[u64; QUEUES],
-    figures: &[u64; MOST_PORTS],
+    hops: &[u64; MOST_HOPS],
     s: usize,
     h: usize,
 ) -> [u64; 6]
-    requires { ⌜ Known (now net) (now waits) (now queues) (now figures) × (s < length (networkOn (now net) .streams)) × (h < length (networkOn (now net) .hops)) ⌝ }
+    requires { ⌜ Known (now net) (now waits) (now queues) (now hops) × Destination (networkOn (now net)) s h ⌝ }
     ensures { λ r. ⌜ r ≡ rowOf (networkOn (now (net .entry))) s h ⌝ }
 {
     let stream = sheet::stream_at(net, s);
     let queue = queue_of(net, queues, s);
-    let worst = worst_of(net, waits, queues, figures, s, h);
+    let worst = worst_of(net, waits, queues, hops, s, h);
     let best = best_of(net, s, h);
-    let jitter = stream.jitter + links::less(worst, best);
+    let jitter = stream.jitter + figures::less(worst, best);
     [s as u64, h as u64, queue, worst, best, jitter]
 }
 
@@ -203,13 +153,13 @@ fn put_stream(
     net: &[u64; SHEET],
     waits: &[u64; MOST_VLS],
     queues: &[u64; QUEUES],
-    figures: &[u64; MOST_PORTS],
+    hops: &[u64; MOST_HOPS],
     leaves: &[bool; MOST_HOPS],
     s: usize,
     at: usize,
     result: &mut [u64],
 ) -> usize
-    requires { ⌜ Putting (now net) (now waits) (now queues) (now figures) (now leaves) s at (now result) ⌝ }
+    requires { ⌜ Putting (now net) (now waits) (now queues) (now hops) (now leaves) s at (now result) ⌝ }
     ensures { λ r. ⌜ Put (networkOn (now (net .entry))) (s + 1) r (length (now (result .entry))) (now (result .exit)) ⌝ }
 {
     let stream = sheet::stream_at(net, s);
@@ -217,10 +167,10 @@ fn put_stream(
     let mut next = at;
     let mut h = 0;
     while h < n {
-        let hop = sheet::hop_at(net, h);
+        let hop = sheet::hop_row(net, h);
         if hop.vl == stream.vl {
             if leaves[h] {
-                put_row(result, next, row_of(net, waits, queues, figures, s, h));
+                put_row(result, next, row_of(net, waits, queues, hops, s, h));
                 next += 6;
             }
         }
@@ -229,23 +179,24 @@ fn put_stream(
     next
 }
 
-// All rows; the lent result is zero before, and long enough.
+// All rows, in a lent result that is zero before and long enough: the place behind them.
 pub fn put_rows(
     net: &[u64; SHEET],
     waits: &[u64; MOST_VLS],
     queues: &[u64; QUEUES],
-    figures: &[u64; MOST_PORTS],
-    leaves: &[bool; MOST_HOPS],
+    hops: &[u64; MOST_HOPS],
     result: &mut [u64],
-)
-    requires { ⌜ Known (now net) (now waits) (now queues) (now figures) × Leaves (networkOn (now net)) (now leaves) × Room (networkOn (now net)) (now result) ⌝ }
-    ensures { λ _. ⌜ now (result .exit) ≡ lent (length (now (result .entry))) (joined (rowsOf (networkOn (now (net .entry))))) ⌝ }
+) -> usize
+    requires { ⌜ Known (now net) (now waits) (now queues) (now hops) × Room (networkOn (now net)) (now result) ⌝ }
+    ensures { λ r. ⌜ (r ≡ 6 * length (rowsOf (networkOn (now (net .entry))))) × (now (result .exit) ≡ lent (length (now (result .entry))) (joined (rowsOf (networkOn (now (net .entry)))))) ⌝ }
 {
+    let leaves = sheet::leaves(net);
     let n = sheet::streams_in(net);
     let mut at = 0;
     let mut s = 0;
     while s < n {
-        at = put_stream(net, waits, queues, figures, leaves, s, at, result);
+        at = put_stream(net, waits, queues, hops, &leaves, s, at, result);
         s += 1;
     }
+    at
 }

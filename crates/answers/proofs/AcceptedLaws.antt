@@ -13,7 +13,7 @@ use Rattle.network.specs.Network.{Network}
 use Rattle.table.specs.declared.Answer.{Answer}
 use Rattle.table.specs.Answers.{answer, accepted, firstGiven}
 use Rattle.table.specs.Read.{networkIn, readAnswer}
-use Rattle.table.proofs.FirstLaws.{Refuses, Refuse, none-given, first-behind, first-stays, accepted-front, accepted-behind, pick-refuses, not-picked}
+use Rattle.table.proofs.FirstLaws.{Refuses, Refuse, refuse-both, none-given, none-accepts, first-behind, first-stays, accepted-front, accepted-behind, pick-refuses, not-picked}
 use Rattle.table.proofs.ReadingLaws.{readRefusals, read-refuse}
 use Rattle.rows.specs.Rows.{rowsOf}
 use Rattle.rows.specs.Refusals.{lateSystem, tooManyRows, tooShort, endlessVl, endlessPort}
@@ -56,6 +56,12 @@ pub record Accepts (bytes : List ℕ) (room : ℕ) : Type 0 where
 module _ (bytes : List ℕ) (room : ℕ) where
   abbrev net : Network
   net = networkIn bytes
+
+  pub number-accepts : analysisAnswer bytes room .number ≡ 0 → analysisAnswer bytes room ≡ accepted
+  unfolding analysisAnswer refusals
+  number-accepts e =
+      let os = readRefusals bytes ++ later net room in
+      none-accepts os (none-given os (refuse-both (readRefusals bytes) (later net room) (read-refuse bytes) (later-refuse net room)) e)
 
   pub accepted-was : analysisAnswer bytes room ≡ accepted → Accepts bytes room
   unfolding analysisAnswer refusals readAnswer answer7 answer8 answer9 answer10 tooShort

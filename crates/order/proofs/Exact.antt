@@ -24,7 +24,7 @@ use Rattle.station.proofs.Facts.{no-busy-length-to}
 use Rattle.table.specs.declared.Answer.{Answer}
 use Rattle.table.specs.Answers.{answer, accepted, firstGiven}
 use Rattle.table.specs.Read.{networkIn}
-use Rattle.table.specs.RoundTrip.{unpacked}
+use Rattle.table.specs.Lists.{unpacked}
 use Rattle.table.proofs.DecodedLaws.{rules-are}
 use Rattle.table.proofs.ReadLaws.{read-references}
 use Rattle.network.specs.Views.{streamsOn}

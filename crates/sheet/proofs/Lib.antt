@@ -1,3 +1,5 @@
 pub mod SheetLaws
 pub mod BlockLaws
+pub mod WalkLaws
+pub mod LeafLaws
 pub mod Unique

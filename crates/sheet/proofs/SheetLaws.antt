@@ -137,7 +137,8 @@ module _ (sheet : List ℕ) where
       (λ i. record { system = system i; gap = gap i; sublinks = links i; lmax = lmax i })
       ∙ sym (tabulate-at (vlOn sheet) (countOn sheet 2) v noVl (omega (arith, vls-are)))
 
-  pub stream-read : (at m : ℕ) → place 3 ≡ at → listed 3 ≡ m → (s : ℕ) → s < length (networkOn sheet .streams) → (x : Bool) → x ≡ eqb (getD sheet (at + s * m + 2) 0) 1
+  -- stream s as it stands on the sheet, and as the network's
+  pub stream-stored : (at m : ℕ) → place 3 ≡ at → listed 3 ≡ m → (s : ℕ) (x : Bool) → x ≡ eqb (getD sheet (at + s * m + 2) 0) 1
       → _≡_ {A = Stream}
       (record {
         vl = getD sheet (at + s * m + 0) 0;
@@ -148,9 +149,9 @@ module _ (sheet : List ℕ) where
         period = getD sheet (at + s * m + 5) 0;
         jitter = getD sheet (at + s * m + 6) 0;
       })
-      (streamAt (networkOn sheet) s)
-  unfolding networkOn streamOn
-  stream-read at m p l s h x is =
+      (streamOn sheet s)
+  unfolding streamOn
+  stream-stored at m p l s x is =
       let here = number 3 at m p l s in
       let vl = here 0 name.Vl (field-places .stream-vl) in
       let link = here 1 name.SubLink (field-places .stream-sub-link) in
@@ -168,7 +169,10 @@ module _ (sheet : List ℕ) where
         period = period i;
         jitter = jitter i;
       })
-      ∙ sym (tabulate-at (streamOn sheet) (countOn sheet 3) s noStream (omega (arith, streams-are)))
+
+  pub stream-there : (s : ℕ) → s < length (networkOn sheet .streams) → streamOn sheet s ≡ streamAt (networkOn sheet) s
+  unfolding networkOn
+  stream-there s h = sym (tabulate-at (streamOn sheet) (countOn sheet 3) s noStream (omega (arith, streams-are)))
 
   pub port-read : (at m : ℕ) → place 4 ≡ at → listed 4 ≡ m → (p x : ℕ) → p < length (networkOn sheet .ports) → x ≡ ticksAt inForce (getD sheet (at + p * m + 0) 0)
       → _≡_ {A = Port}
@@ -183,15 +187,19 @@ module _ (sheet : List ℕ) where
       (λ i. record { perbyte = speed i; least = least i; greatest = greatest i })
       ∙ sym (tabulate-at (portOn sheet) (countOn sheet 4) p noPort (omega (arith, ports-are)))
 
-  pub hop-read : (at m : ℕ) → place 5 ≡ at → listed 5 ≡ m → (h : ℕ) → h < length (networkOn sheet .hops) → (x : Parent) → x ≡ parentOf (getD sheet (at + h * m + 2) 0)
+  -- hop h as it stands on the sheet, and as the network's
+  pub hop-stored : (at m : ℕ) → place 5 ≡ at → listed 5 ≡ m → (h : ℕ) (x : Parent) → x ≡ parentOf (getD sheet (at + h * m + 2) 0)
       → _≡_ {A = Hop}
       (record { vl = getD sheet (at + h * m + 0) 0; port = getD sheet (at + h * m + 1) 0; parent = x })
-      (hopAt (networkOn sheet) h)
-  unfolding networkOn hopOn
-  hop-read at m p l h row x is =
+      (hopOn sheet h)
+  unfolding hopOn
+  hop-stored at m p l h x is =
       let here = number 5 at m p l h in
       let vl = here 0 name.Vl (field-places .hop-vl) in
       let port = here 1 name.Port (field-places .hop-port) in
       let parent = is ∙ ap parentOf (here 2 name.Parent (field-places .hop-parent)) in
-      (λ i. record { vl = vl i; port = port i; parent = parent i })
-      ∙ sym (tabulate-at (hopOn sheet) (countOn sheet 5) h noHop (omega (arith, hops-are)))
+      λ i. record { vl = vl i; port = port i; parent = parent i }
+
+  pub hop-there : (h : ℕ) → h < length (networkOn sheet .hops) → hopOn sheet h ≡ hopAt (networkOn sheet) h
+  unfolding networkOn
+  hop-there h row = sym (tabulate-at (hopOn sheet) (countOn sheet 5) h noHop (omega (arith, hops-are)))

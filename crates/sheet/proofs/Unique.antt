@@ -24,6 +24,12 @@ use Rattle.sheet.proofs.ports_in.Kinds as ports-kinds
 use Rattle.sheet.proofs.ports_in.Reads as ports-reads
 use Rattle.sheet.proofs.hops_in.Kinds as hops-kinds
 use Rattle.sheet.proofs.hops_in.Reads as hops-reads
+use Rattle.sheet.proofs.walking.stream_row.Kinds as stream-row-kinds
+use Rattle.sheet.proofs.walking.stream_row.Reads as stream-row-reads
+use Rattle.sheet.proofs.walking.hop_row.Kinds as hop-row-kinds
+use Rattle.sheet.proofs.walking.hop_row.Reads as hop-row-reads
+use Rattle.sheet.proofs.walking.leaves.Kinds as leaves-kinds
+use Rattle.sheet.proofs.walking.leaves.Reads as leaves-reads
 
 pub delays-of-settles : Settles 1 delays-kinds.ps delays-kinds.r delays-reads.Post
 delays-of-settles κs a x y ws vs p q = (p ∙ sym q, refl)
@@ -57,3 +63,12 @@ ports-in-settles κs a x y ws vs p q = (p .0 ∙ sym (q .0), refl)
 
 pub hops-in-settles : Settles 1 hops-kinds.ps hops-kinds.r hops-reads.Post
 hops-in-settles κs a x y ws vs p q = (p .0 ∙ sym (q .0), refl)
+
+pub stream-row-settles : Settles 1 stream-row-kinds.ps stream-row-kinds.r stream-row-reads.Post
+stream-row-settles κs a x y ws vs p q = (p ∙ sym q, refl)
+
+pub hop-row-settles : Settles 1 hop-row-kinds.ps hop-row-kinds.r hop-row-reads.Post
+hop-row-settles κs a x y ws vs p q = (p ∙ sym q, refl)
+
+pub leaves-settles : Settles 1 leaves-kinds.ps leaves-kinds.r leaves-reads.Post
+leaves-settles κs a x y ws vs p q = (p ∙ sym q, refl)

@@ -1,5 +1,7 @@
 // The sheet: the network of an accepted table in memory, as one list of numbers, and its records as they are read off it, in ticks.
 // It holds the lists of the table one after the other, each at its place whatever the counts are, behind the header's numbers and the counts. Any array is a sheet.
+mod walking;
+
 use frame::Speed;
 use frame::Tick;
 use layout::places;
@@ -11,6 +13,9 @@ use network::Parent;
 use network::Port;
 use network::Stream;
 use network::Vl;
+pub use walking::hop_row;
+pub use walking::leaves;
+pub use walking::stream_row;
 ghost use mathlib.Core.Path.{_≡_};
 ghost use Prim.Native.Nat.{_≤_, min};
 ghost use lib.Dec.{eqb};

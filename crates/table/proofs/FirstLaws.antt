@@ -19,6 +19,10 @@ abbrev pub Refuse : List (Option Answer) → Type 0
 Refuse [] = Unit {0}
 Refuse (o ∷ os) = Refuses o × Refuse os
 
+pub refuse-both : (os ps : List (Option Answer)) → Refuse os → Refuse ps → Refuse (os ++ ps)
+refuse-both [] ps h l = l
+refuse-both (o ∷ os) ps h l = (h .0, refuse-both os ps (h .1) l)
+
 -- none of them is given
 abbrev pub NoneGiven : List (Option Answer) → Type 0
 NoneGiven [] = Unit {0}

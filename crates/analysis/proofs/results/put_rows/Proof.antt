@@ -12,38 +12,38 @@ use Rattle.analysis.proofs.results.put_rows.Statement.{statement}
 use Rattle.analysis.proofs.results.put_rows.Tie as tie
 
 abbrev Inv-loop : tie.InvT-loop
-Inv-loop net waits queues figures leaves result₀ n at₀ s₀ result at s =
+Inv-loop net waits queues hops result₀ leaves n at₀ s₀ result at s =
     (s ≤ n) × (length result ≡ length result₀) × Put (networkOn net) s at (length result₀) result
 
 abbrev μ-loop : tie.MeasureT-loop
-μ-loop net waits queues figures leaves result₀ n at₀ s₀ result at s = n - s
+μ-loop net waits queues hops result₀ leaves n at₀ s₀ result at s = n - s
 
 loop-holds : tie.Need-loop-holds Inv-loop μ-loop
 loop-holds c =
-    let start = c .before .before in
-    (omega arith, refl, put-no-rows (networkOn (start .args .net .now)) (start .args .result .now) (start .pre .2 .zero-before))
+    let start = c .before .before .before in
+    (omega arith, refl, put-no-rows (networkOn (start .args .net .now)) (start .args .result .now) (start .pre .1 .zero-before))
 
 put-stream-requires : tie.Need-put-stream-requires Inv-loop μ-loop
 put-stream-requires c κs =
-    let start = c .before .before .before .before .before in
-    let l = c .before .before .loop in
+    let start = c .before .before .before .before .before .before .before in
+    let l = c .before .before .before .loop in
     record {
       known = start .pre .0;
-      leaves-are = start .pre .1;
+      leaves-are = c .before .before .before .before .before .leaves .ensures;
       stream-there = omega arith;
       before = rw (l .inv .1) (l .inv .2);
-      fits = omega (arith, start .pre .2 .fits, l .inv .1);
+      fits = omega (arith, start .pre .1 .fits, l .inv .1);
     }
 
 loop-again : tie.Need-loop-again Inv-loop μ-loop
 loop-again c =
-    let l = c .before .before .before .before .before .loop in
+    let l = c .before .before .before .before .before .before .loop in
     let kept = c .before .before .put-stream .kept .1 .1 .1 .1 .1 .1 .1 .0 in
     (omega arith, kept ∙ l .inv .1, rw (← (l .inv .1)) (c .before .before .put-stream .ensures))
 
 returns : tie.Need-returns Inv-loop μ-loop
 returns c =
-    let a = c .before .before .before .before .args in
+    let a = c .before .before .before .before .before .args in
     let l = c .before .loop in
     put-all-rows (networkOn (a .net .now)) (l .s) (l .at) (length (a .result .now)) (l .result) (omega arith) (l .inv .2)
 
@@ -53,6 +53,7 @@ put-rows-spec =
     (tie.spec
     Inv-loop
     μ-loop
+    (λ c κs. search needs)
     (λ c κs. search needs)
     loop-holds
     put-stream-requires

@@ -11,6 +11,8 @@ use Rattle.network.specs.declared.Hop.{Hop}
 use Rattle.network.specs.Network.{streamAt, hopAt}
 use Rattle.network.specs.Views.{leaf}
 use Rattle.sheet.specs.Sheet.{networkOn}
+use Rattle.figures.proofs.RangeLaws.{hop-walked}
+use Rattle.analysis.proofs.KnownLaws.{known-leaf}
 use Rattle.analysis.proofs.RowLaws.{rows-up-to-other, rows-up-to-inner}
 use Rattle.analysis.proofs.JoinLaws.{PutTo, put-none, put-same, put-all, put-length, put-room, put-more}
 use borrow.Author.Needs.{needs}
@@ -18,11 +20,11 @@ use Rattle.analysis.proofs.results.put_stream.Statement.{statement}
 use Rattle.analysis.proofs.results.put_stream.Tie as tie
 
 abbrev Inv-loop : tie.InvT-loop
-Inv-loop net waits queues figures leaves s at result₀ stream n next₀ h₀ result next h =
+Inv-loop net waits queues hops leaves s at result₀ stream n next₀ h₀ result next h =
     (h ≤ n) × (length result ≡ length result₀) × PutTo (networkOn net) s h next (length result₀) result
 
 abbrev μ-loop : tie.MeasureT-loop
-μ-loop net waits queues figures leaves s at result₀ stream n next₀ h₀ result next h = n - h
+μ-loop net waits queues hops leaves s at result₀ stream n next₀ h₀ result next h = n - h
 
 -- hop h is a destination of the stream
 destination : (c : tie.Then2 Inv-loop μ-loop) →
@@ -32,9 +34,9 @@ destination : (c : tie.Then2 Inv-loop μ-loop) →
 destination c =
     let start = c .before .before .before .before .before .before .before .before .before .before .before in
     let l = c .before .before .before .before .before .before .before .loop in
-    let hop = c .before .before .before .before .before .hop-at .ensures in
     let inside : l .h < length (networkOn (start .args .net .now) .hops) = omega (arith, c .before .before .before .before .before .before .loop-test .taken, c .before .before .before .before .before .before .before .before .hops-in .ensures .0) in
-    (inside, sym (ap (λ (x : Hop). x .vl) hop) ∙ c .before .before .if1 .taken ∙ ap (λ (x : Stream). x .vl) (c .before .before .before .before .before .before .before .before .before .stream-at .ensures), sym (start .pre .leaves-are .leaf-is (l .h) inside) ∙ c .if2 .taken)
+    let hop = hop-walked (start .pre .known .good) (c .before .before .before .before .before .hop-row .ensures) inside in
+    (inside, sym (ap (λ (x : Hop). x .vl) hop) ∙ c .before .before .if1 .taken ∙ ap (λ (x : Stream). x .vl) (c .before .before .before .before .before .before .before .before .before .stream-at .ensures), sym (known-leaf _ _ (l .h) (start .pre .leaves-are) (start .pre .known .good) inside) ∙ c .if2 .taken)
 
 -- there is room for its row
 room : (c : tie.Then2 Inv-loop μ-loop) →
@@ -56,7 +58,7 @@ loop-holds c =
 row-of-requires : tie.Need-row-of-requires Inv-loop μ-loop
 row-of-requires c κs =
     let start = c .before .before .before .before .before .before .before .before .before .before .before .before in
-    (start .pre .known, start .pre .stream-there, destination (c .before) .0)
+    (start .pre .known, record { stream-there = start .pre .stream-there; hop-there = destination (c .before) .0 })
 
 put-row-requires : tie.Need-put-row-requires Inv-loop μ-loop
 put-row-requires c κs = omega (arith, room (c .before .before), c .before .before .before .before .before .before .before .before .before .loop .inv .1)
@@ -72,9 +74,9 @@ loop-again c =
     let net = networkOn (a .net .now) in
     let n = length (a .result .now) in
     let l = c .before .before .before .before .before .loop in
-    let hop = c .before .before .before .hop-at .ensures in
     let inside : l .h < length (net .hops) = omega (arith, c .before .before .before .before .loop-test .taken, c .before .before .before .before .before .before .hops-in .ensures .0) in
-    let known = start .pre .leaves-are .leaf-is (l .h) inside in
+    let hop = hop-walked (start .pre .known .good) (c .before .before .before .hop-row .ensures) inside in
+    let known = known-leaf _ _ (l .h) (start .pre .leaves-are) (start .pre .known .good) inside in
     let stream-vl = ap (λ (x : Stream). x .vl) (c .before .before .before .before .before .before .before .stream-at .ensures) in
     let next : PutTo net (a .s) (l .h + 1) (c .if1 .next) n (c .if1 .result) = ⊎-elim
     (λ w.

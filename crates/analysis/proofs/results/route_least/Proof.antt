@@ -9,7 +9,7 @@ use Rattle.network.specs.declared.Hop.{Hop}
 use Rattle.network.specs.Views.{route}
 use Rattle.sheet.specs.Sheet.{networkOn}
 use Rattle.analysis.specs.Placing.{routeLeast}
-use Rattle.analysis.proofs.RangeLaws.{port-range, hop-names, parent-there, parent-read}
+use Rattle.figures.proofs.RangeLaws.{port-range, hop-names, parent-there, parent-read}
 use Rattle.rows.proofs.RowLaws.{leastAt}
 use Rattle.analysis.proofs.RowLaws.{along, along-root, along-child, along-none, route-least-is, least-read}
 use borrow.Author.Needs.{needs}
@@ -28,23 +28,25 @@ port-there : (c : tie.After-hop-at Inv-loop μ-loop) → c .hop-at .result .port
 port-there c = hop-names (c .before .before .before .pre .0) (c .hop-at .ensures) (c .before .before .loop .inv .1) .1
 
 -- what hop g adds
-added : (c : tie.After-struct-known Inv-loop μ-loop) →
-    let d = c .before .before .port-at .result .least in
-    (c .before .hop-least .result + d ≡ leastAt (networkOn (c .before .before .before .before .before .before .args .net .now)) (c .before .before .before .before .before .loop .g))
-    × (c .before .hop-least .result + d ≤ 2090)
+added : (c : tie.After-struct-known2 Inv-loop μ-loop) →
+    let port = c .before .before .port-at .result in
+    (84 * port .perbyte + port .least ≡ leastAt (networkOn (c .before .before .before .before .before .before .args .net .now)) (c .before .before .before .before .before .loop .g))
+    × (84 * port .perbyte + port .least ≤ 2090)
 added c =
     let start = c .before .before .before .before .before .before in
     let hop = c .before .before .before .hop-at in
-    let port = c .before .before .port-at in
-    let line = c .before .hop-least in (
-      least-read (networkOn (start .args .net .now)) (c .before .before .before .before .before .loop .g) (hop .result .port) (line .result) (port .result .least) (ap (λ (x : Hop). x .port) (hop .ensures)) (line .ensures .0) (ap (λ (x : Port). x .least) (port .ensures)),
-      omega (arith, line .ensures .1, port-range (start .pre .0) (port .ensures) (port-there (c .before .before .before))),
+    let port = c .before .before .port-at in (
+      least-read (networkOn (start .args .net .now)) (c .before .before .before .before .before .loop .g) (hop .result .port) (port .result .perbyte) (port .result .least) (ap (λ (x : Hop). x .port) (hop .ensures)) (ap (λ (x : Port). x .perbyte) (port .ensures)) (ap (λ (x : Port). x .least) (port .ensures)),
+      omega (arith, port-range (start .pre .0) (port .ensures) (port-there (c .before .before .before))),
     )
 
 loop-holds : tie.Need-loop-holds Inv-loop μ-loop
 loop-holds c =
     let net = networkOn (c .args .net .now) in
     (omega arith, c .pre .1, omega arith, omega (arith, route-least-is net (c .args .h)))
+
+mul-sum : tie.Need-mul-sum Inv-loop μ-loop
+mul-sum c = omega (arith, port-range (c .before .before .before .before .before .pre .0) (c .before .port-at .ensures) (port-there (c .before .before)))
 
 add-sum : tie.Need-add-sum Inv-loop μ-loop
 add-sum c = omega (arith, added c)
@@ -88,7 +90,7 @@ route-least-spec =
     loop-holds
     (λ c κs. search needs)
     (λ c κs. search needs)
-    (λ c κs. search needs)
+    mul-sum
     add-sum
     add-sum-2
     (λ c. search needs)

@@ -6,12 +6,11 @@ use native.Mathlib.Omega.{arith}
 use lib.ListN.{length, getD}
 use Rattle.network.specs.declared.Port.{Port}
 use Rattle.network.specs.declared.Hop.{Hop}
-use Rattle.rows.specs.Ports.{jitterOf}
 use Rattle.network.specs.Views.{route}
 use Rattle.sheet.specs.Sheet.{networkOn}
 use Rattle.analysis.specs.Placing.{routeMost}
-use Rattle.analysis.proofs.BoundLaws.{port-figure-bound}
-use Rattle.analysis.proofs.RangeLaws.{port-range, hop-names, parent-there, parent-read}
+use Rattle.figures.proofs.BoundLaws.{hop-figure-bound}
+use Rattle.figures.proofs.RangeLaws.{port-range, hop-names, parent-there, parent-read}
 use Rattle.rows.proofs.RowLaws.{mostAt}
 use Rattle.analysis.proofs.RowLaws.{along, along-root, along-child, along-none, route-most-is, most-read}
 use borrow.Author.Needs.{needs}
@@ -19,46 +18,42 @@ use Rattle.analysis.proofs.results.route_most.Statement.{statement}
 use Rattle.analysis.proofs.results.route_most.Tie as tie
 
 abbrev Inv-loop : tie.InvT-loop
-Inv-loop net figures h sum₀ left₀ g₀ sum left g =
+Inv-loop net hops h sum₀ left₀ g₀ sum left g =
     (left ≤ 8) × (g < length (networkOn net .hops)) × (sum ≤ (8 - left) * 125001250)
     × (sum + along (networkOn net) (mostAt (networkOn net)) left g ≡ routeMost (networkOn net) (route (networkOn net) h))
 
 abbrev μ-loop : tie.MeasureT-loop
-μ-loop net figures h sum₀ left₀ g₀ sum left g = left
+μ-loop net hops h sum₀ left₀ g₀ sum left g = left
 
 port-there : (c : tie.After-hop-at Inv-loop μ-loop) → c .hop-at .result .port < length (networkOn (c .before .before .before .args .net .now) .ports)
-port-there c = hop-names (c .before .before .before .pre .0) (c .hop-at .ensures) (c .before .before .loop .inv .1) .1
+port-there c = hop-names (c .before .before .before .pre .good) (c .hop-at .ensures) (c .before .before .loop .inv .1) .1
 
 -- what hop g adds
 added : (c : tie.After-struct-known Inv-loop μ-loop) →
     let d = c .before .before .port-at .result .greatest in
-    let figures = c .before .before .before .before .before .before .args .figures .now in
-    let net = networkOn (c .before .before .before .before .before .before .args .net .now) in
-    (d + getD figures (c .before .before .before .hop-at .result .port) 0 ≡ mostAt net (c .before .before .before .before .before .loop .g))
-    × (d + getD figures (c .before .before .before .hop-at .result .port) 0 ≤ 125001250)
+    let start = c .before .before .before .before .before .before in
+    let g = c .before .before .before .before .before .loop .g in
+    (d + getD (start .args .hops .now) g 0 ≡ mostAt (networkOn (start .args .net .now)) g) × (d + getD (start .args .hops .now) g 0 ≤ 125001250)
 added c =
     let start = c .before .before .before .before .before .before in
     let net = networkOn (start .args .net .now) in
+    let l = c .before .before .before .before .before .loop in
     let hop = c .before .before .before .hop-at in
     let port = c .before .before .port-at in
-    let good = start .pre .0 in
-    let known = start .pre .2 in
+    let good = start .pre .good in
     let there = port-there (c .before .before .before) in
-    let p = hop .result .port in (
-      most-read net (start .args .figures .now) (c .before .before .before .before .before .loop .g) p (port .result .greatest) known there (ap (λ (x : Hop). x .port) (hop .ensures)) (ap (λ (x : Port). x .greatest) (port .ensures)),
-      omega (arith, port-range good (port .ensures) there .delay-greatest, known .figure-is p there, port-figure-bound net (good .ranges) (good .references) (jitterOf net) p),
+    let noted = start .pre .figure-is (l .g) (l .inv .1) in (
+      most-read net (l .g) (hop .result .port) (port .result .greatest) _ (ap (λ (x : Hop). x .port) (hop .ensures)) (ap (λ (x : Port). x .greatest) (port .ensures)) noted,
+      omega (arith, port-range good (port .ensures) there .delay-greatest, noted, hop-figure-bound net (good .ranges) (good .references) (l .g) (l .inv .1)),
     )
 
 loop-holds : tie.Need-loop-holds Inv-loop μ-loop
 loop-holds c =
     let net = networkOn (c .args .net .now) in
-    (omega arith, c .pre .1, omega arith, omega (arith, route-most-is net (c .args .h)))
-
-mul-sum : tie.Need-mul-sum Inv-loop μ-loop
-mul-sum c = omega (arith, port-there (c .before))
+    (omega arith, c .pre .row, omega arith, omega (arith, route-most-is net (c .args .h)))
 
 element-copy-out-sum : tie.Need-element-copy-out-sum Inv-loop μ-loop
-element-copy-out-sum c = omega (arith, port-there (c .before), c .before .before .before .before .pre .0 .ranges .few-ports)
+element-copy-out-sum c = omega (arith, c .before .before .before .loop .inv .1, c .before .before .before .before .pre .good .ranges .few-hops)
 
 add-sum : tie.Need-add-sum Inv-loop μ-loop
 add-sum c = omega (arith, added c)
@@ -77,7 +72,7 @@ returns c =
 
 loop-again : tie.Need-loop-again Inv-loop μ-loop
 loop-again c =
-    let good = c .before .before .before .before .before .before .before .before .before .pre .0 in
+    let good = c .before .before .before .before .before .before .before .before .before .pre .good in
     let net = networkOn (c .before .before .before .before .before .before .before .before .before .args .net .now) in
     let l = c .before .before .before .before .before .before .before .before .loop in
     let hop = c .before .before .before .before .before .before .hop-at in
@@ -102,7 +97,7 @@ route-most-spec =
     loop-holds
     (λ c κs. search needs)
     (λ c κs. search needs)
-    mul-sum
+    (λ c. search needs)
     element-copy-out-sum
     add-sum
     add-sum-2

@@ -4,16 +4,20 @@ use mathlib.Core.Path.{ap}
 use native.Mathlib.Omega.{arith}
 use Rattle.network.specs.declared.Stream.{Stream}
 use Rattle.sheet.specs.Sheet.{networkOn}
-use Rattle.analysis.proofs.RangeLaws.{stream-range}
+use Rattle.figures.proofs.RangeLaws.{stream-range}
+use Rattle.analysis.proofs.KnownLaws.{queues-known}
 use Rattle.analysis.proofs.RowLaws.{row-read}
 use borrow.Author.Needs.{needs}
 use Rattle.analysis.proofs.results.row_of.Statement.{statement}
 use Rattle.analysis.proofs.results.row_of.Tie as tie
 
+queue-of-requires : tie.Need-queue-of-requires
+queue-of-requires c κs = let p = c .before .pre in queues-known _ _ _ _ (p .0) _ (p .1 .stream-there)
+
 add-jitter : tie.Need-add-jitter
 add-jitter c =
     let p = c .before .before .before .before .before .before .pre in
-    omega (arith, stream-range (p .0 .good) (c .before .before .before .before .before .stream-at .ensures) (p .1))
+    omega (arith, stream-range (p .0 .good) (c .before .before .before .before .before .stream-at .ensures) (p .1 .stream-there))
 
 returns : tie.Need-returns
 returns c =
@@ -25,7 +29,7 @@ row-of-spec =
     tie.close
     (tie.spec
     (λ c κs. search needs)
-    (λ c κs. search needs)
+    queue-of-requires
     (λ c κs. search needs)
     (λ c κs. search needs)
     (λ c κs. search needs)

@@ -1,6 +1,6 @@
 -- `analysis::results::worst_of` meets its contract: the parts are added up in 01's order.
 -- Assumes nothing.
-use mathlib.Core.Path.{_≡_, ap}
+use mathlib.Core.Path.{_≡_, ap, _∙_}
 use Prim.Native.Nat.{_≤_, _<_}
 use native.Mathlib.Omega.{arith}
 use lib.ListN.{length, getD}
@@ -9,18 +9,21 @@ use Rattle.network.specs.Network.{streamAt}
 use Rattle.rows.specs.Links.{sendMost, muxWait}
 use Rattle.sheet.specs.declared.Delays.{Delays}
 use Rattle.sheet.specs.Sheet.{networkOn}
-use Rattle.analysis.proofs.BoundLaws.{mux-wait-bound}
-use Rattle.analysis.proofs.RangeLaws.{DelayBounds, delays-range, stream-vl}
-use Rattle.analysis.proofs.RowLaws.{wait-read, worst-is}
+use Rattle.figures.specs.Computing.{DelayRange}
+use Rattle.figures.proofs.BoundLaws.{mux-wait-bound}
+use Rattle.figures.proofs.RangeLaws.{delays-range, stream-vl}
+use Rattle.figures.proofs.KnownLaws.{wait-at}
+use Rattle.analysis.proofs.KnownLaws.{hops-known, queues-known}
+use Rattle.analysis.proofs.RowLaws.{worst-is}
 use borrow.Author.Needs.{needs}
 use Rattle.analysis.proofs.results.worst_of.Statement.{statement}
 use Rattle.analysis.proofs.results.worst_of.Tie as tie
 
-delays-known : (c : tie.After-delays-of) → DelayBounds (c .delays-of .result)
+delays-known : (c : tie.After-delays-of) → DelayRange (c .delays-of .result)
 delays-known c = delays-range (c .before .pre .0 .good) (c .delays-of .ensures)
 
 vl-there : (c : tie.After-stream-at) → c .stream-at .result .vl < length (networkOn (c .before .before .args .net .now) .vls)
-vl-there c = let p = c .before .before .pre in stream-vl (p .0 .good) (c .stream-at .ensures) (p .1)
+vl-there c = let p = c .before .before .pre in stream-vl (p .0 .good) (c .stream-at .ensures) (p .1 .stream-there)
 
 few-vls : (c : tie.After-stream-at) → c .stream-at .result .vl < 256
 few-vls c = omega (arith, vl-there c, c .before .before .pre .0 .good .ranges .few-vls)
@@ -37,8 +40,25 @@ waited c =
     let v = streamAt net (start .args .s) .vl in
     let stream = c .before .before .before .stream-at in
     let known = start .pre .0 in
-    let is = wait-read net (start .args .waits .now) (stream .result .vl) v (known .waits-are) (vl-there (c .before .before .before)) (ap (λ (x : Stream). x .vl) (stream .ensures)) in
+    let is =
+    wait-at net (start .args .waits .now) (start .args .queues .now) (start .args .hops .now) (known .computed) (stream .result .vl) (vl-there (c .before .before .before))
+    ∙ ap (λ (x : Stream). muxWait net (x .vl)) (stream .ensures) in
     (is, omega (arith, is, mux-wait-bound net (known .good .ranges) (known .good .references) v))
+
+queue-of-requires : tie.Need-queue-of-requires
+queue-of-requires c κs = let p = c .before .before .pre in queues-known _ _ _ _ (p .0) _ (p .1 .stream-there)
+
+route-most-requires : tie.Need-route-most-requires
+route-most-requires c κs = let p = c .before .before .before .before .before .before .pre in hops-known _ _ _ _ (p .0) _ (p .1 .hop-there)
+
+add-sent : tie.Need-add-sent
+add-sent c = omega (arith, delays-known (c .before .before .before))
+
+mul-sent : tie.Need-mul-sent
+mul-sent c = omega (arith, few-vls (c .before .before))
+
+element-copy-out-sent : tie.Need-element-copy-out-sent
+element-copy-out-sent c = omega (arith, few-vls (c .before .before))
 
 send-most-requires : tie.Need-send-most-requires
 send-most-requires c κs = (c .before .before .before .before .before .pre .0 .good, vl-there (c .before .before .before))
@@ -76,14 +96,14 @@ worst-of-spec =
     (tie.spec
     (λ c κs. search needs)
     (λ c κs. search needs)
-    (λ c κs. search needs)
-    (λ c. omega (arith, delays-known (c .before .before .before)))
-    (λ c. omega (arith, few-vls (c .before .before)))
-    (λ c. few-vls (c .before .before))
+    queue-of-requires
+    add-sent
+    mul-sent
+    element-copy-out-sent
     add-sent-2
     send-most-requires
     add-sent-3
-    (λ c κs. search needs)
+    route-most-requires
     add-result
     add-result-2
     returns)

@@ -1,0 +1,17 @@
+pub mod GivenLaws
+pub mod FillLaws
+pub mod NotedLaws
+pub mod SumLaws
+pub mod LinkLaws
+pub mod BoundLaws
+pub mod RangeLaws
+pub mod GatherLaws
+pub mod FoundLaws
+pub mod QueueLaws
+pub mod HopLaws
+pub mod PortFlowLaws
+pub mod FigureLaws
+pub mod CountLaws
+pub mod JudgeLaws
+pub mod KnownLaws
+pub mod Unique

@@ -1,0 +1,30 @@
+-- `figures::flows::put_flow` meets its contract: three numbers, put behind those of the first i flows.
+-- Assumes nothing.
+use mathlib.Core.Path.{_∙_}
+use native.Mathlib.Omega.{arith}
+use Rattle.station.proofs.FlatLaws.{length-with-flow, flows-in-with-flow}
+use borrow.Author.Needs.{needs}
+use Rattle.figures.proofs.flows.put_flow.Statement.{statement}
+use Rattle.figures.proofs.flows.put_flow.Tie as tie
+
+returns : tie.Need-returns
+returns c =
+    let a = c .args in
+    (length-with-flow (a .flows .now) (a .i) (a .f) ∙ c .pre .0, flows-in-with-flow (a .flows .now) (a .i) (a .f) (omega (arith, c .pre .0, c .pre .1)))
+
+pub put-flow-spec : {M : Type 1} → statement M
+put-flow-spec =
+    tie.close
+    (tie.spec
+    (λ c. search needs)
+    (λ c. search needs)
+    (λ c. search needs)
+    (λ c. search needs)
+    (λ c. search needs)
+    (λ c. search needs)
+    (λ c. search needs)
+    (λ c. search needs)
+    (λ c. search needs)
+    (λ c. search needs)
+    (λ c. search needs)
+    returns)

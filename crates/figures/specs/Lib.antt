@@ -1,0 +1,4 @@
+pub mod Figures
+pub mod Computing
+pub mod Gathering
+pub mod Judging
