@@ -1,4 +1,4 @@
-/* A twin in C of crates/analysis: mux waits, queue and port figures and result rows of a table, and 01's answers 7 to 10.
+/* A twin in C of crates/figures and crates/analysis: mux waits, queue figures, figures by hop and result rows of a table, and 01's answers 7 to 10.
    The same loops over the same lists in the same order; as there, flows are gathered in one place and lent. */
 #ifndef FIGURES_H
 #define FIGURES_H
@@ -9,7 +9,7 @@
 
 typedef struct {
     Lists net;
-    uint64_t queues[1024], waits[256], figures[128], jitters[1024];
+    uint64_t queues[1024], waits[256], figures[1024], jitters[1024];
     uint8_t leaves[1024];
     Flow flows[MOST_FLOWS];
 } Work;
@@ -115,7 +115,7 @@ static uint64_t hop_jitter(const Work *w, size_t h)
     if (is_root(l, h))
         return w->waits[hop[0]] + (line(l, hop[0]) - 84) * system_byte(l, hop[0]) + spread;
     size_t g = hop[2] - 1;
-    return w->jitters[g] + less(w->figures[l->hops[g][1]], hop_least(l, g)) + spread;
+    return w->jitters[g] + less(w->figures[g], hop_least(l, g)) + spread;
 }
 
 static size_t port_flows(Work *w, size_t p)
@@ -138,7 +138,9 @@ static size_t all_ports(Work *w)
         Search s = searched(w->flows, port_flows(w, p));
         if (s.answer != SERVED)
             return p;
-        w->figures[p] = s.best.figure;
+        for (size_t h = 0; h < w->net.rows[5]; h++)
+            if (w->net.hops[h][1] == p)
+                w->figures[h] = s.best.figure;
     }
     return w->net.rows[4];
 }
@@ -155,11 +157,12 @@ static void find_leaves(Work *w)
 
 static size_t row_count(const Work *w)
 {
-    size_t n = 0;
+    size_t counts[256] = {0}, n = 0;
+    for (size_t h = 0; h < w->net.rows[5]; h++)
+        if (w->leaves[h])
+            counts[w->net.hops[h][0]]++;
     for (size_t s = 0; s < w->net.rows[3]; s++)
-        for (size_t h = 0; h < w->net.rows[5]; h++)
-            if (w->net.hops[h][0] == w->net.streams[s][0] && w->leaves[h])
-                n++;
+        n += counts[w->net.streams[s][0]];
     return n;
 }
 
@@ -168,7 +171,7 @@ static uint64_t route_most(const Work *w, size_t h)
     const Lists *l = &w->net;
     uint64_t sum = 0;
     for (int left = 8; 0 < left; left--) {
-        sum += l->ports[l->hops[h][1]][2] + w->figures[l->hops[h][1]];
+        sum += l->ports[l->hops[h][1]][2] + w->figures[h];
         if (is_root(l, h))
             break;
         h = l->hops[h][2] - 1;

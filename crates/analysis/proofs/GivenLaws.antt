@@ -16,7 +16,6 @@ use Rattle.table.specs.Read.{networkIn}
 use Rattle.unpacker.proofs.ListLaws.{cleared-length}
 use Rattle.rows.specs.Rows.{rowsOf}
 use Rattle.answers.specs.Analysis.{analysisAnswer, accepts, joined, rowsLeft, rowsGiven}
-use Rattle.analysis.specs.declared.Analysed.{Analysed}
 use Rattle.analysis.specs.Analysis.{Analyses}
 
 -- a list that is cleared is zero at its own length

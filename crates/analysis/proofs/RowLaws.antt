@@ -1,35 +1,23 @@
--- The rows of a network one step at a time: the leaves after one hop more, the destinations of a VL, what a route adds up to, the parts of worst and best, and the rows of one stream more.
+-- The rows of a network one step at a time: what a route adds up to, the parts of worst and best, and the rows of one stream more.
 -- Assumes nothing.
 use Prim.Native.Nat.{ℕ, zero, suc, _+_, _-_, _*_, _≤_, _<_}
-use mathlib.Core.Bool.{Bool, true, false, _&&_, not, and-false}
+use mathlib.Core.Bool.{true, false}
 use mathlib.Core.List.{List, [], _∷_, _++_, map, append-assoc, map-append}
-use mathlib.Core.Logic.{⊎-elim}
-use mathlib.Core.Option.{Option, none, some}
+use mathlib.Core.Option.{none, some}
 use mathlib.Core.Path.{_≡_, refl, sym, ap, ap₂, _∙_}
-use native.Mathlib.Decide.{ℕ-discrete}
-use native.Mathlib.Nat.{eq-or-lt-of-le}
-use native.Mathlib.Numerals.{add-one}
 use native.Mathlib.Omega.{arith}
-use borrow.Author.Tests.{eq-eqb, ne-eqb}
-use lib.Dec.{eqb}
-use lib.ListN.{length, getD, set, replicate, length-append, length-map, getD-replicate}
-use lib.Seq.{getD-set-same, getD-set-other}
-use Rattle.base.specs.Least.{leastFrom}
-use Rattle.base.specs.Tabulate.{passing, total}
-use Rattle.base.specs.Tests.{isSome}
-use Rattle.base.proofs.LeastLaws.{least-is, least-none, least-was, none-was, least-exists}
-use Rattle.base.proofs.TabulateLaws.{passing-hit, passing-miss, passing-by}
-use Rattle.base.proofs.TestLaws.{some-is}
+use lib.ListN.{length, length-append}
+use Rattle.base.specs.Tabulate.{total}
+use Rattle.base.proofs.TabulateLaws.{passing-by}
 use Rattle.frame.specs.Packets.{packets}
 use Rattle.frame.proofs.FrameLaws.{least-line-is}
 use Rattle.network.specs.declared.EndSystem.{EndSystem}
 use Rattle.network.specs.declared.Vl.{Vl}
 use Rattle.network.specs.Network.{Network, systemAt, vlAt, streamAt, portAt, hopAt, parentAt}
-use Rattle.network.specs.Views.{routeOf, isParent, leaf, leavesOf, route}
+use Rattle.network.specs.Views.{routeOf, leaf, leavesOf, route}
 use Rattle.network.proofs.RouteLaws.{route-of-root, route-of-child}
 use Rattle.rows.specs.Links.{sendMost, sendLine, muxWait, hopLine}
-use Rattle.rows.specs.Queues.{queueFigure}
-use Rattle.rows.specs.Ports.{portFigure, jitterOf, figureOf}
+use Rattle.rows.specs.Ports.{figureOf}
 use Rattle.rows.specs.Rows.{queueOf, worst, best, rowJitter, rowOf, rowsTo, rowsOf}
 use Rattle.rows.proofs.RowLaws.{mostAt, leastAt, worst-sum, best-sum}
 use Rattle.figures.proofs.CountLaws.{isDestination, leavesTo, leaves-of-all, leaves-to-hit, leaves-to-other, leaves-to-inner, rowsWith, length-rows-with, rows-more, length-rows-more}

@@ -42,7 +42,8 @@ pub record HopsKnown (sheet hops : List ℕ) (h : ℕ) : Type 0 where
 pub record QueuesKnown (sheet queues : List ℕ) (s : ℕ) : Type 0 where
   pub good : Good sheet
   pub row : s < length (networkOn sheet .streams)
-  pub queue-is : (v k : ℕ) → v < length (networkOn sheet .vls) → k < vlAt (networkOn sheet) v .sublinks → getD queues (v * 4 + k) 0 ≡ queueFigure (networkOn sheet) v k
+  pub queue-is : (v k : ℕ) → v < length (networkOn sheet .vls) → k < vlAt (networkOn sheet) v .sublinks
+      → getD queues (v * 4 + k) 0 ≡ queueFigure (networkOn sheet) v k
 
 pub record Destination (net : Network) (s h : ℕ) : Type 0 where
   pub stream-there : s < length (net .streams)

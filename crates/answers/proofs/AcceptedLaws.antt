@@ -1,7 +1,7 @@
 -- What acceptance by the analysis says: none of the answers 1 to 10 is given, since each that is given has a number; so the reader accepts, and 7 to 10 find nothing. And which of them is given first, where those before it are not.
 -- Assumes nothing.
 use Prim.Native.Nat.{ℕ, _*_, _≤_, _<_}
-use mathlib.Core.Bool.{Bool, true, false}
+use mathlib.Core.Bool.{true}
 use mathlib.Core.List.{List, [], _∷_, _++_}
 use mathlib.Core.Option.{Option, none, some, Option·some-ne-none}
 use mathlib.Core.Path.{_≡_, refl, ap}

@@ -1,9 +1,9 @@
 -- The rows of a network counted: the destinations of each VL hop by hop, and the rows stream by stream.
 -- Assumes nothing.
-use Prim.Native.Nat.{ℕ, suc, _+_, _≤_, _<_}
+use Prim.Native.Nat.{ℕ, _+_, _≤_, _<_}
 use mathlib.Core.Bool.{Bool, true, false, _&&_, and-false}
 use mathlib.Core.List.{List, [], _∷_, _++_, map}
-use mathlib.Core.Path.{_≡_, refl, sym, ap, ap₂, _∙_}
+use mathlib.Core.Path.{_≡_, sym, ap, ap₂, _∙_}
 use native.Mathlib.Decide.{ℕ-discrete}
 use native.Mathlib.Numerals.{add-one}
 use native.Mathlib.Omega.{arith}
@@ -16,7 +16,6 @@ use Rattle.base.proofs.TabulateLaws.{length-passing, passing-hit, passing-miss,
 use Rattle.network.specs.Network.{Network, streamAt, hopAt}
 use Rattle.network.specs.Views.{leaf, leavesOf}
 use Rattle.rows.specs.Rows.{rowOf, rowsTo}
-use Rattle.figures.proofs.FillLaws.{zeros-at}
 
 module _ (net : Network) where
   -- ---- the destinations of VL v among the first n hops

@@ -9,7 +9,7 @@ use native.Mathlib.Omega.{arith}
 use borrow.Author.Count.{below-more}
 use lib.ListN.{length, replicate}
 use Rattle.frame.specs.Tick.{inForce}
-use Rattle.network.specs.Network.{Network, hopAt}
+use Rattle.network.specs.Network.{Network}
 use Rattle.network.specs.ReferenceFacts.{References}
 use Rattle.network.specs.Ranges.{Ranges}
 use Rattle.station.specs.Offered.{offered}
@@ -20,7 +20,7 @@ use Rattle.rows.proofs.PortLaws.{figure-of-port}
 use Rattle.rows.proofs.TickLaws.{port-length-is, port-figure-is}
 use Rattle.figures.specs.declared.flows.Outcome.{Outcome}
 use Rattle.figures.specs.Figures.{hopFigures}
-use Rattle.figures.specs.Computing.{First, Noted, FigureFor, PortsDone}
+use Rattle.figures.specs.Computing.{Noted, FigureFor, PortsDone}
 use Rattle.figures.specs.Gathering.{Gathered, Found}
 use Rattle.figures.proofs.BoundLaws.{port-offered}
 use Rattle.figures.proofs.NotedLaws.{no-port, noted-all}

@@ -1,11 +1,11 @@
 -- What is read off a sheet for a hop gives its flow: its jitter is by how much its frames are apart when they leave the end system or the port before, and what is between its switch delays.
 -- Assumes nothing.
-use Prim.Native.Nat.{ℕ, _+_, _-_, _*_, _≤_, _<_}
+use Prim.Native.Nat.{ℕ, _+_, _-_, _*_, _<_}
 use mathlib.Core.List.{List}
 use mathlib.Core.Option.{none, some}
 use mathlib.Core.Path.{_≡_, sym, ap, _∙_}
 use native.Mathlib.Omega.{arith}
-use lib.ListN.{length, getD}
+use lib.ListN.{length}
 use Rattle.frame.specs.Frame.{leastLine, largestLine}
 use Rattle.network.specs.declared.EndSystem.{EndSystem}
 use Rattle.network.specs.declared.Vl.{Vl}

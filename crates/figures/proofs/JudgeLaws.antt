@@ -4,16 +4,14 @@ use Prim.Native.Nat.{ℕ, _*_, _≤_, _<_}
 use mathlib.Core.Bool.{Bool, true, false}
 use mathlib.Core.List.{List, [], _∷_, _++_}
 use mathlib.Core.Option.{Option, none, some}
-use mathlib.Core.Path.{_≡_, refl, sym, ap, _∙_}
+use mathlib.Core.Path.{_≡_, sym, ap, _∙_}
 use native.Mathlib.Omega.{arith}
 use borrow.Author.Tests.{lt-ltb, le-ltb, eq-eqb, ne-eqb}
 use lib.Dec.{eqb}
 use lib.ListN.{length, replicate}
-use Rattle.base.specs.Pick.{pick}
 use Rattle.base.specs.Least.{leastFrom}
 use Rattle.base.specs.Tests.{isSome}
 use Rattle.base.proofs.LeastLaws.{least-is, least-none}
-use Rattle.layout.specs.Sizes.{place}
 use Rattle.layout.proofs.SizeLaws.{most-are, places-are}
 use Rattle.network.specs.Network.{Network}
 use Rattle.table.specs.declared.Answer.{Answer}
@@ -28,7 +26,7 @@ use Rattle.rows.specs.Rows.{rowsOf}
 use Rattle.rows.specs.Refusals.{sendsLate, lateSystem, tooManyRows, tooShort, endlessSubLink, endlessVl, endless, endlessPort}
 use Rattle.answers.specs.Analysis.{refusedAt, answer7, answer8, answer9, answer10, analysisAnswer, accepts}
 use Rattle.answers.proofs.AcceptedLaws.{later, reader-refuses, reader-accepts}
-use Rattle.figures.specs.Figures.{waitsOf, queuesOf, hopFigures, Figured}
+use Rattle.figures.specs.Figures.{Figured}
 use Rattle.figures.specs.Computing.{First}
 use Rattle.figures.specs.Judging.{Computed, Judged}
 

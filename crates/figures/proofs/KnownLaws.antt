@@ -5,7 +5,6 @@ use mathlib.Core.List.{List}
 use mathlib.Core.Path.{_≡_, sym, ap, _∙_}
 use native.Mathlib.Omega.{arith}
 use borrow.Author.Tests.{eq-eqb}
-use lib.Dec.{eqb}
 use lib.ListN.{length, getD}
 use Rattle.layout.proofs.SizeLaws.{most-are}
 use Rattle.network.specs.Network.{Network, vlAt}
@@ -13,7 +12,7 @@ use Rattle.network.specs.Ranges.{Ranges}
 use Rattle.table.specs.declared.Answer.{Answer}
 use Rattle.table.specs.Unpack.{left}
 use Rattle.table.specs.Read.{networkIn}
-use Rattle.sheet.specs.Sheet.{networkOn, Good, sheetOf}
+use Rattle.sheet.specs.Sheet.{networkOn, Good}
 use Rattle.reader.specs.Reading.{readSheet}
 use Rattle.reader.proofs.FillLaws.{good-sheet}
 use Rattle.rows.specs.Links.{muxWait}

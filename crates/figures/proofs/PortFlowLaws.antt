@@ -3,7 +3,7 @@
 use Prim.Native.Nat.{ℕ, _+_, _≤_, _<_}
 use mathlib.Core.Bool.{Bool}
 use mathlib.Core.List.{List, [], _∷_, _++_}
-use mathlib.Core.Path.{_≡_, ap, _∙_}
+use mathlib.Core.Path.{_≡_, ap}
 use native.Mathlib.Omega.{arith}
 use borrow.Author.Tests.{eq-eqb, ne-eqb}
 use lib.Dec.{eqb}
@@ -14,7 +14,6 @@ use Rattle.station.specs.Station.{Flow}
 use Rattle.station.specs.Flat.{flowsIn}
 use Rattle.rows.specs.Ports.{hopFlow, portFlows, jitterOf}
 use Rattle.figures.specs.Computing.{Noted, PortGathered}
-use Rattle.figures.specs.Gathering.{Gathered}
 use Rattle.figures.proofs.GatherLaws.{Gathers, gather-start, gather-taken, gather-passed}
 use Rattle.figures.proofs.NotedLaws.{NotedTo, noted-start, noted-taken, noted-passed, noted-port}
 

@@ -1,5 +1,5 @@
--- What the private functions promise one another of what they compute: the first row that fails a test, the ranges that keep sums and products small, and what the lists of waits, queue figures, jitters and figures hold on the way. Nothing here has to be believed.
--- Assumes nothing.
+-- What the private functions promise one another: the first row that fails a test, ranges that keep sums and products small, and what the
+-- lists of waits, queue figures, jitters and figures hold on the way. Nothing here has to be believed. Assumes nothing.
 use Prim.Native.Nat.{ℕ, suc, _+_, _*_, _≤_, _<_}
 use mathlib.Core.Bool.{Bool, true, false, _&&_, not}
 use mathlib.Core.List.{List, map}

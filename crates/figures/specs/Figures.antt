@@ -33,8 +33,8 @@ queuesOf net = tabulate (queueAt net) (length (net .vls) * 4)
 unfoldable pub hopFigures : Network → List ℕ
 hopFigures net = tabulate (figureOf net) (length (net .hops))
 
--- the answer 1 to 10 to a table and a lent result of `room` numbers; on acceptance the sheet of the table and its figures, zeros behind them;
--- "Each refusal leaves every lent result all zero"
+-- the answer 1 to 10 to a table and a lent result of `room` numbers; on acceptance the sheet of the table and its figures, and
+-- "Each refusal leaves every lent result all zero; an acceptance leaves zero after what it wrote."
 pub record Figured (bytes : List ℕ) (room : ℕ) (r : Answer) (net waits queues hops : List ℕ) : Type 0 where
   pub answer-is : r ≡ analysisAnswer bytes room
   pub net-is : net ≡ pick (accepts bytes room) (sheetOf (unpacked bytes)) (replicate (place 6) 0)

@@ -13,7 +13,6 @@ use borrow.Author.Tests.{eq-eqb, ne-eqb}
 use lib.ListN.{length, getD, set, replicate, getD-replicate, length-set}
 use lib.Seq.{getD-set-same, getD-set-other}
 use Rattle.base.specs.Least.{leastFrom}
-use Rattle.base.specs.Tabulate.{tabulate}
 use Rattle.base.specs.Tests.{isSome}
 use Rattle.base.proofs.LeastLaws.{least-is, least-none, least-was, none-was, least-exists}
 use Rattle.base.proofs.TabulateLaws.{tabulate-at, tabulate-same, tabulate-rows}
@@ -21,7 +20,7 @@ use Rattle.base.proofs.TestLaws.{some-is}
 use Rattle.layout.proofs.SizeLaws.{most-are}
 use Rattle.network.specs.declared.Hop.{Hop}
 use Rattle.network.specs.declared.Parent.{Parent}
-use Rattle.network.specs.Network.{Network, parentIn, hopAt, parentAt}
+use Rattle.network.specs.Network.{Network, parentIn, parentAt}
 use Rattle.network.specs.Views.{isParent, leaf}
 use Rattle.sheet.specs.Sheet.{networkOn}
 use Rattle.sheet.specs.Walks.{hopRow, leavesOn}

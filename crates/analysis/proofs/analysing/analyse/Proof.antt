@@ -1,13 +1,10 @@
 -- `analysis::analyse` meets its contract: a refusal of the figures is the answer and leaves the cleared result; else the sheet is good, its network is the table's, and the rows are written.
 -- Assumes nothing.
-use Prim.Native.Nat.{_<_}
-use mathlib.Core.List.{List}
-use mathlib.Core.Path.{_≡_, sym, ap, _∙_}
+use mathlib.Core.Path.{_≡_}
 use native.Mathlib.Omega.{arith}
 use lib.ListN.{length}
-use Rattle.sheet.specs.Sheet.{networkOn}
 use Rattle.unpacker.proofs.ListLaws.{cleared-length}
-use Rattle.figures.proofs.KnownLaws.{Known, figured-known}
+use Rattle.figures.proofs.KnownLaws.{figured-known}
 use Rattle.analysis.proofs.GivenLaws.{cleared-is, refused-given, rows-given}
 use borrow.Author.Needs.{needs}
 use Rattle.analysis.proofs.analysing.analyse.Statement.{statement}

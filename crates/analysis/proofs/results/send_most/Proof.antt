@@ -1,7 +1,7 @@
 -- `analysis::results::send_most` meets its contract: the most bytes of the VL's frame, by the ticks of a byte on its end system's link.
 -- Assumes nothing.
 use Prim.Native.Nat.{ℕ, _*_, _≤_}
-use mathlib.Core.Path.{_≡_, refl, ap, _∙_}
+use mathlib.Core.Path.{_≡_, refl, ap}
 use native.Mathlib.Nat.{mul-le-mul}
 use native.Mathlib.Omega.{arith}
 use Rattle.frame.specs.Frame.{largestLine}

@@ -10,8 +10,6 @@ use Rattle.table.specs.Answers.{accepted}
 use Rattle.table.specs.Read.{readAnswer}
 use Rattle.table.proofs.ReadingLaws.{read-accepted}
 use Rattle.reader.proofs.FillLaws.{good-sheet}
-use Rattle.sheet.specs.Sheet.{networkOn}
-use Rattle.figures.specs.Judging.{Computed}
 use Rattle.figures.proofs.JudgeLaws.{refused-leaves, accepted-leaves, answer-judged, answer-read, cleared, sheet-cleared, sheet-filled}
 use borrow.Author.Needs.{needs}
 use Rattle.figures.proofs.judging.figures.Statement.{statement}

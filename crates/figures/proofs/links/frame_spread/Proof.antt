@@ -4,7 +4,7 @@ use Prim.Native.Nat.{_-_, _*_, _≤_}
 use mathlib.Core.Path.{_≡_}
 use native.Mathlib.Nat.{mul-le-mul}
 use native.Mathlib.Omega.{arith}
-use Rattle.frame.specs.Frame.{leastLine, largestLine}
+use Rattle.frame.specs.Frame.{largestLine}
 use Rattle.frame.proofs.FrameLaws.{least-line-is}
 use Rattle.figures.proofs.GivenLaws.{line-is}
 use borrow.Author.Needs.{needs}

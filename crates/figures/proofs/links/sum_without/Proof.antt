@@ -1,13 +1,12 @@
 -- `figures::links::sum_without` meets its contract: after v turns the sum is that of the first v VLs.
 -- Assumes nothing.
-use Prim.Native.Nat.{suc, _-_, _*_, _≤_}
+use Prim.Native.Nat.{suc, _-_, _≤_}
 use mathlib.Core.Logic.{⊎-elim}
 use mathlib.Core.Path.{_≡_, sym, ap, _∙_}
 use native.Mathlib.Numerals.{add-one}
 use native.Mathlib.Omega.{arith}
 use lib.ListN.{length}
 use Rattle.network.specs.declared.Vl.{Vl}
-use Rattle.network.specs.declared.EndSystem.{EndSystem}
 use Rattle.sheet.specs.Sheet.{networkOn}
 use Rattle.figures.specs.Computing.{sumWithout}
 use Rattle.figures.proofs.BoundLaws.{sum-without-bound}
