@@ -15,6 +15,7 @@ use crate::output::end_item;
 use crate::output::put_answer;
 use crate::output::put_numbers;
 use crate::output::rest;
+use layout::sizes;
 use table::Unpacked;
 
 // A line for each list where the table is accepted; none on a refusal.
@@ -32,12 +33,12 @@ fn put_lists(
     if !accepts(u.answer) {
         return at;
     }
-    let a = put_numbers(text, at, header, 5);
+    let a = put_numbers(text, at, header, sizes::HEADER_LIST);
     let b = put_numbers(text, a, systems, u.systems);
-    let c = put_numbers(text, b, vls, all_of(u.vls, 4));
-    let d = put_numbers(text, c, streams, all_of(u.streams, 7));
-    let e = put_numbers(text, d, ports, all_of(u.ports, 3));
-    put_numbers(text, e, hops, all_of(u.hops, 3))
+    let c = put_numbers(text, b, vls, all_of(u.vls, sizes::VL));
+    let d = put_numbers(text, c, streams, all_of(u.streams, sizes::STREAM));
+    let e = put_numbers(text, d, ports, all_of(u.ports, sizes::PORT));
+    put_numbers(text, e, hops, all_of(u.hops, sizes::HOP))
 }
 
 fn rest_of_lists(
@@ -51,14 +52,14 @@ fn rest_of_lists(
 ) -> u64 {
     let mut used = 0;
     if accepts(u.answer) {
-        used = 5;
+        used = sizes::HEADER_LIST;
     }
     let a = rest(header, used, 0);
     let b = rest(systems, u.systems, a);
-    let c = rest(vls, all_of(u.vls, 4), b);
-    let d = rest(streams, all_of(u.streams, 7), c);
-    let e = rest(ports, all_of(u.ports, 3), d);
-    rest(hops, all_of(u.hops, 3), e)
+    let c = rest(vls, all_of(u.vls, sizes::VL), b);
+    let d = rest(streams, all_of(u.streams, sizes::STREAM), c);
+    let e = rest(ports, all_of(u.ports, sizes::PORT), d);
+    rest(hops, all_of(u.hops, sizes::HOP), e)
 }
 
 fn put_unpacked(

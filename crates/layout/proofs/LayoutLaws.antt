@@ -7,7 +7,7 @@ use Prim.Native.Nat.{ℕ, zero, suc, _+_, _*_, _/_, _^_, _≤_, _<_}
 use native.Mathlib.Decide.{decLt}
 use native.Mathlib.Nat.{not-suc-le-zero, le-of-suc-le-suc}
 use native.Mathlib.Omega.{arith}
-use lib.Dec.{T, ltb, leb, eqb, leb→le, eqb→eq}
+use lib.Dec.{T, ltb, leb, eqb, ltb→lt, leb→le, eqb→eq}
 use lib.ListN.{length, getD, List·getD-eq-default, List·getD-map, length-map}
 use borrow.Author.Tests.{le-ltb, not-false}
 use Rattle.base.proofs.Every.{every, at, left, right}
@@ -230,6 +230,10 @@ listed-is = by-kind
     (λ k. getD (10 ∷ 1 ∷ 4 ∷ 7 ∷ 3 ∷ 3 ∷ []) k 0)
     tt
     (λ k h. rw (listed-past k h) (sym (List·getD-eq-default (10 ∷ 1 ∷ 4 ∷ 7 ∷ 3 ∷ 3 ∷ []) 0 h)))
+
+-- the records of a section have numbers
+pub listed-some : (s : ℕ) → s < 6 → 0 < listed s
+listed-some s h = rw (listed-is s) (ltb→lt _ _ (at (λ k. ltb 0 (getD (10 ∷ 1 ∷ 4 ∷ 7 ∷ 3 ∷ 3 ∷ []) k 0)) 6 tt s h))
 
 -- a record's bytes are no more than twice its numbers
 pub size-numbers : (s : ℕ) → size s ≤ 2 * listed s

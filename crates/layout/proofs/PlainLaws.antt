@@ -1,14 +1,13 @@
 -- A row read from the table without fault, as plain facts of what it means: one record for each section, by the names of its fields, of any version. Each fact is the field's own range.
 -- Assumes nothing.
 use mathlib.Core.Path.{_≡_, refl}
-use mathlib.Core.Bool.{true}
 use mathlib.Core.List.{List}
 use mathlib.Core.Logic.{_⊎_, inl, inr, ⊎-elim}
 use mathlib.Core.Option.{none, some, Option·some-injective}
 use Prim.Native.Nat.{ℕ, zero, suc, _^_, _≤_, _<_}
 use native.Mathlib.Omega.{arith}
 use lib.ListN.{length, getD}
-use Rattle.frame.specs.Gap.{codeOf, goodMs}
+use Rattle.frame.specs.Gap.{codeOf}
 use Rattle.frame.proofs.GapLaws.{code-back, code-was, good-was}
 use Rattle.bits.specs.Tables.{Fit}
 use Rattle.bits.proofs.PartLaws.{fit-at}
@@ -109,7 +108,6 @@ pub record PlainVl (vs : List ℕ) : Type 0 where
   pub end-system : named 2 vs name.EndSystem < 256
   pub code : ℕ
   pub gap : codeOf (named 2 vs name.Gap) ≡ some code
-  pub gap-good : goodMs (named 2 vs name.Gap) ≡ true
   pub gap-least : 1 ≤ named 2 vs name.Gap
   pub gap-greatest : named 2 vs name.Gap ≤ 128
   pub sub-links-least : 1 ≤ named 2 vs name.SubLinks
@@ -130,7 +128,6 @@ vl-plain version raw ok fit =
       end-system = reference-in 2 raw ok 0 (omega arith) fit refl;
       code = getD raw 1 0;
       gap = gap;
-      gap-good = good;
       gap-least = range .0;
       gap-greatest = range .1;
       sub-links-least = links .0;

@@ -1,5 +1,5 @@
--- 01, The packed table: the fields of each kind of record, in order, with their names, widths in bits and what each stands for; and the kind
--- of record that each version has in each section. This is the schema, as data: all else follows from it. Assumes nothing.
+-- 01, The packed table: the fields of each kind of record, in order, with names, widths in bits and what each stands for; and the kind of
+-- record that each version has in each section. This is the schema, as data: all else follows from it. Assumes nothing.
 use Prim.Native.Nat.{ℕ, _/_}
 use mathlib.Core.List.{List, [], _∷_, map}
 use lib.ListN.{length, getD}

@@ -1,5 +1,5 @@
--- How many records a section has at most, how long the list of its numbers is then, and where that list stands on a sheet: the header's numbers and
--- the counts first, then the five lists one after the other, each at its place whatever the counts are. Assumes nothing.
+-- How many numbers the list of a section has that holds the most records, and where it stands on a sheet: the header's numbers and the
+-- counts first, then the five lists one after the other, each at its place whatever the counts are. Assumes nothing.
 use Prim.Native.Nat.{ℕ, zero, suc, _+_, _-_, _*_}
 use lib.ListN.{length}
 use Rattle.layout.specs.Limits.{most}

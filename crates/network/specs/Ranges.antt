@@ -7,6 +7,7 @@ use mathlib.Core.Path.{_≡_}
 use lib.ListN.{length}
 use Rattle.frame.specs.Gap.{gapOf}
 use Rattle.frame.specs.Tick.{inForce}
+use Rattle.layout.specs.Limits.{limits}
 use Rattle.network.specs.declared.Vl.{Vl}
 use Rattle.network.specs.declared.Stream.{Stream}
 use Rattle.network.specs.declared.Port.{Port}
@@ -46,11 +47,11 @@ pub record Ranges (net : Network) : Type 0 where
   -- the numbers are of the tick in force
   pub in-force : net .tick ≡ inForce
   -- "At most 64 end systems, 256 VLs, 512 streams, 128 ports, 1,024 hops"
-  pub few-systems : length (net .systems) ≤ 64
-  pub few-vls : length (net .vls) ≤ 256
-  pub few-streams : length (net .streams) ≤ 512
-  pub few-ports : length (net .ports) ≤ 128
-  pub few-hops : length (net .hops) ≤ 1024
+  pub few-systems : length (net .systems) ≤ limits .systems
+  pub few-vls : length (net .vls) ≤ limits .vls
+  pub few-streams : length (net .streams) ≤ limits .streams
+  pub few-ports : length (net .ports) ≤ limits .ports
+  pub few-hops : length (net .hops) ≤ limits .hops
   -- "send and receive delays at most 1,875"
   pub send-least : net .sendLeast ≤ net .sendGreatest
   pub send-greatest : net .sendGreatest ≤ 1875

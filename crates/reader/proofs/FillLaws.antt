@@ -31,7 +31,8 @@ use Rattle.table.specs.Read.{networkIn, answer5, answer6, readAnswer}
 use Rattle.table.proofs.AnswerLaws.{Sound, unpack-was}
 use Rattle.table.proofs.SectionLaws.{length-records}
 use Rattle.table.proofs.HeaderLaws.{five}
-use Rattle.table.proofs.UnpackLaws.{length-header, listed-some}
+use Rattle.layout.proofs.LayoutLaws.{listed-some}
+use Rattle.table.proofs.UnpackLaws.{length-header}
 use Rattle.table.proofs.ReadingLaws.{few, readersLengths, own-refused, own-accepted}
 use Rattle.table.proofs.HeldLaws.{vl-row}
 use Rattle.table.proofs.ReadLaws.{count-read, number-read, read-references, read-sound, sound-ranges, read-ranges}

@@ -8,6 +8,7 @@ use lib.ListN.{length}
 use Rattle.base.specs.Least.{leastFrom}
 use Rattle.base.specs.Tests.{isSome}
 use Rattle.frame.specs.Tick.{inTime}
+use Rattle.layout.specs.Limits.{limits}
 use Rattle.network.specs.Network.{Network, vlAt}
 use Rattle.rows.specs.Links.{sendSum}
 use Rattle.rows.specs.Queues.{queueLength}
@@ -23,7 +24,7 @@ lateSystem net = leastFrom (sendsLate net) 0 (length (net .systems))
 
 -- 8: "more than 1,024 rows ..
 unfoldable pub tooManyRows : Network → Bool
-tooManyRows net = ltb 1024 (length (rowsOf net))
+tooManyRows net = ltb (limits .rows) (length (rowsOf net))
 
 -- .. or the lent result is shorter than 6 numbers a row"
 unfoldable pub tooShort : Network → ℕ → Bool

@@ -109,59 +109,54 @@ module _ (ls : Lists) (held : Held ls) where
       ∙ lent-at (capacity (suc s)) (listFor ls (suc s)) (i * listed (suc s) + k) inside
 
   -- ---- the records
-  -- the number of the field of a name, which stands at place k of m
-  number : (s i : ℕ) (n : Name) (k m : ℕ) → suc s < 6 → i < recordsIn ls (suc s) → listed (suc s) ≡ m → placeOf (suc s) n ≡ k → k < m
-      → numberOn (sheetOf ls) (suc s) i n ≡ numberAt ls (suc s) i n
-  number s i n k m h l e p f = number-on s i n h l (omega (arith, e, p))
-
   system-same : (i : ℕ) → i < recordsIn ls 1 → systemOn (sheetOf ls) i ≡ systemIn inForce ls i
   unfolding systemOn systemIn
-  system-same i h = let n0 = ap (ticksAt inForce) (number 0 i name.Speed 0 1 (omega arith) h (listed-is 1) (field-places .system-speed) (omega arith)) in λ j. record { perbyte = n0 j }
+  system-same i h = let n0 = ap (ticksAt inForce) (number-on 0 i name.Speed (omega arith) h (omega (arith, listed-is 1, field-places .system-speed))) in λ j. record { perbyte = n0 j }
 
   vl-same : (i : ℕ) → i < recordsIn ls 2 → vlOn (sheetOf ls) i ≡ vlIn inForce ls i
   unfolding vlOn vlIn
   vl-same i h =
-      let here : (n : Name) (k : ℕ) → placeOf 2 n ≡ k → k < 4 → numberOn (sheetOf ls) 2 i n ≡ numberAt ls 2 i n =
-      λ n k p l. number 1 i n k 4 (omega arith) h (listed-is 2) p l in
-      let n0 = here name.EndSystem 0 (field-places .vl-system) (omega arith) in
-      let ms : numberOn (sheetOf ls) 2 i name.Gap % 256 ≡ numberAt ls 2 i name.Gap = omega (arith, here name.Gap 1 (field-places .vl-gap) (omega arith), held .gaps i h) in
+      let all = listed-is 2 in
+      let here : (n : Name) → placeOf 2 n < listed 2 → numberOn (sheetOf ls) 2 i n ≡ numberAt ls 2 i n = λ n l. number-on 1 i n (omega arith) h l in
+      let n0 = here name.EndSystem (omega (arith, field-places .vl-system)) in
+      let ms : numberOn (sheetOf ls) 2 i name.Gap % 256 ≡ numberAt ls 2 i name.Gap = omega (arith, here name.Gap (omega (arith, field-places .vl-gap)), held .gaps i h) in
       let n1 = ap (λ (n : ℕ). perMs * n) ms in
-      let n2 = here name.SubLinks 2 (field-places .vl-sub-links) (omega arith) in
-      let n3 = here name.Lmax 3 (field-places .vl-lmax) (omega arith) in
+      let n2 = here name.SubLinks (omega (arith, field-places .vl-sub-links)) in
+      let n3 = here name.Lmax (omega (arith, field-places .vl-lmax)) in
       λ j. record { system = n0 j; gap = n1 j; sublinks = n2 j; lmax = n3 j }
 
   stream-same : (i : ℕ) → i < recordsIn ls 3 → streamOn (sheetOf ls) i ≡ streamIn inForce ls i
   unfolding streamOn streamIn
   stream-same i h =
-      let here : (n : Name) (k : ℕ) → placeOf 3 n ≡ k → k < 7 → numberOn (sheetOf ls) 3 i n ≡ numberAt ls 3 i n =
-      λ n k p l. number 2 i n k 7 (omega arith) h (listed-is 3) p l in
-      let n0 = here name.Vl 0 (field-places .stream-vl) (omega arith) in
-      let n1 = here name.SubLink 1 (field-places .stream-sub-link) (omega arith) in
-      let n2 = ap (λ (n : ℕ). eqb n 1) (here name.Kind 2 (field-places .stream-kind) (omega arith)) in
-      let n3 = here name.Size 3 (field-places .stream-size) (omega arith) in
-      let n4 = here name.LeastSize 4 (field-places .stream-least-size) (omega arith) in
-      let n5 = units (here name.Period 5 (field-places .stream-period) (omega arith)) in
-      let n6 = units (here name.Jitter 6 (field-places .stream-jitter) (omega arith)) in
+      let all = listed-is 3 in
+      let here : (n : Name) → placeOf 3 n < listed 3 → numberOn (sheetOf ls) 3 i n ≡ numberAt ls 3 i n = λ n l. number-on 2 i n (omega arith) h l in
+      let n0 = here name.Vl (omega (arith, field-places .stream-vl)) in
+      let n1 = here name.SubLink (omega (arith, field-places .stream-sub-link)) in
+      let n2 = ap (λ (n : ℕ). eqb n 1) (here name.Kind (omega (arith, field-places .stream-kind))) in
+      let n3 = here name.Size (omega (arith, field-places .stream-size)) in
+      let n4 = here name.LeastSize (omega (arith, field-places .stream-least-size)) in
+      let n5 = units (here name.Period (omega (arith, field-places .stream-period))) in
+      let n6 = units (here name.Jitter (omega (arith, field-places .stream-jitter))) in
       λ j. record { vl = n0 j; sublink = n1 j; sampling = n2 j; size = n3 j; least = n4 j; period = n5 j; jitter = n6 j }
 
   port-same : (i : ℕ) → i < recordsIn ls 4 → portOn (sheetOf ls) i ≡ portIn inForce ls i
   unfolding portOn portIn
   port-same i h =
-      let here : (n : Name) (k : ℕ) → placeOf 4 n ≡ k → k < 3 → numberOn (sheetOf ls) 4 i n ≡ numberAt ls 4 i n =
-      λ n k p l. number 3 i n k 3 (omega arith) h (listed-is 4) p l in
-      let n0 = ap (ticksAt inForce) (here name.Speed 0 (field-places .port-speed) (omega arith)) in
-      let n1 = units (here name.SwitchLeast 1 (field-places .port-least) (omega arith)) in
-      let n2 = units (here name.SwitchGreatest 2 (field-places .port-greatest) (omega arith)) in
+      let all = listed-is 4 in
+      let here : (n : Name) → placeOf 4 n < listed 4 → numberOn (sheetOf ls) 4 i n ≡ numberAt ls 4 i n = λ n l. number-on 3 i n (omega arith) h l in
+      let n0 = ap (ticksAt inForce) (here name.Speed (omega (arith, field-places .port-speed))) in
+      let n1 = units (here name.SwitchLeast (omega (arith, field-places .port-least))) in
+      let n2 = units (here name.SwitchGreatest (omega (arith, field-places .port-greatest))) in
       λ j. record { perbyte = n0 j; least = n1 j; greatest = n2 j }
 
   hop-same : (i : ℕ) → i < recordsIn ls 5 → hopOn (sheetOf ls) i ≡ hopIn ls i
   unfolding hopOn hopIn
   hop-same i h =
-      let here : (n : Name) (k : ℕ) → placeOf 5 n ≡ k → k < 3 → numberOn (sheetOf ls) 5 i n ≡ numberAt ls 5 i n =
-      λ n k p l. number 4 i n k 3 (omega arith) h (listed-is 5) p l in
-      let n0 = here name.Vl 0 (field-places .hop-vl) (omega arith) in
-      let n1 = here name.Port 1 (field-places .hop-port) (omega arith) in
-      let n2 = ap parentOf (here name.Parent 2 (field-places .hop-parent) (omega arith)) in
+      let all = listed-is 5 in
+      let here : (n : Name) → placeOf 5 n < listed 5 → numberOn (sheetOf ls) 5 i n ≡ numberAt ls 5 i n = λ n l. number-on 4 i n (omega arith) h l in
+      let n0 = here name.Vl (omega (arith, field-places .hop-vl)) in
+      let n1 = here name.Port (omega (arith, field-places .hop-port)) in
+      let n2 = ap parentOf (here name.Parent (omega (arith, field-places .hop-parent))) in
       λ j. record { vl = n0 j; port = n1 j; parent = n2 j }
 
   -- ---- the network

@@ -25,27 +25,24 @@ use Rattle.table.specs.Lists.{Lists, listFor, recordsIn, kindFor}
 use Rattle.table.specs.Unpack.{answer1, answer2, answer3, badRow, badSection, answerAtRow, answer4, Lengths, needs, answer11, unpackAnswer}
 use Rattle.table.specs.Write.{headerFor, meantRow, whole, write2, badRecord, badList, answerAtRecord, write4, tableSize, write11, writeAnswer}
 
--- ---- the first refusal: acceptance passes over each, as a refusal has a number
-refused-number : (a : Answer) → 0 < a .number → a ≡ accepted → ⊥
-refused-number a h e = omega (arith, ap (λ (x : Answer). x .number) e)
-
-pick-passed : (t : Bool) (o : Option Answer) (a : Answer) (os : List (Option Answer)) → 0 < a .number → firstGiven (pick t o (some a) ∷ os) ≡ accepted
+-- ---- the first refusal: acceptance passes over each, and tells what each went by
+pub pick-passed : (t : Bool) (o : Option Answer) (a : Answer) (os : List (Option Answer)) → 0 < a .number → firstGiven (pick t o (some a) ∷ os) ≡ accepted
     → (t ≡ true) × (firstGiven (o ∷ os) ≡ accepted)
 unfolding firstGiven
 pick-passed true o a os h e = (refl, e)
-pick-passed false o a os h e = absurd (refused-number a h e)
+pick-passed false o a os h e = absurd (omega (arith, ap (λ (x : Answer). x .number) e))
 
-skip-passed : (t : Bool) (a : Answer) (os : List (Option Answer)) → 0 < a .number → firstGiven (pick t (some a) none ∷ os) ≡ accepted → firstGiven os ≡ accepted
+pub skip-passed : (t : Bool) (a : Answer) (os : List (Option Answer)) → 0 < a .number → firstGiven (pick t (some a) none ∷ os) ≡ accepted → firstGiven os ≡ accepted
 unfolding firstGiven
-skip-passed true a os h e = absurd (refused-number a h e)
+skip-passed true a os h e = absurd (omega (arith, ap (λ (x : Answer). x .number) e))
 skip-passed false a os h e = e
 
-fault-passed : (o : Option ℕ) (f : ℕ → Answer) (os : List (Option Answer)) → ((n : ℕ) → 0 < f n .number)
+pub fault-passed : (o : Option ℕ) (f : ℕ → Answer) (os : List (Option Answer)) → ((n : ℕ) → 0 < f n .number)
     → firstGiven ((elim o [ none ↦ none | some n ↦ some (f n) ]) ∷ os) ≡ accepted
     → (o ≡ none) × (firstGiven os ≡ accepted)
 unfolding firstGiven
 fault-passed none f os h e = (refl, e)
-fault-passed (some n) f os h e = absurd (refused-number (f n) (h n) e)
+fault-passed (some n) f os h e = absurd (omega (arith, h n, ap (λ (x : Answer). x .number) e))
 
 -- ---- faults by section and row
 not-some : (o : Option ℕ) → isSome o ≡ false → o ≡ none

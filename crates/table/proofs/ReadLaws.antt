@@ -92,8 +92,9 @@ module _ (bytes : List ℕ) (sound : Sound bytes) (i : ℕ) where
   unfolding networkIn
   vl-range h =
       let at : i < recordsIn (unpacked bytes) 2 = omega (arith, count-read bytes 1 (omega arith)) in
-      let number : (n : Name) → placeOf 2 n < 4 → numberAt (unpacked bytes) 2 i n ≡ named 2 (converted Reading (layout (kindIn bytes 2)) (row bytes 2 i)) n
-      = λ n l. number-read bytes 1 i n (omega arith) h (omega (arith, listed-is 2)) in
+      let all = listed-is 2 in
+      let number : (n : Name) → placeOf 2 n < listed 2 → numberAt (unpacked bytes) 2 i n ≡ named 2 (converted Reading (layout (kindIn bytes 2)) (row bytes 2 i)) n
+      = λ n l. number-read bytes 1 i n (omega arith) h l in
       let p = vl-row bytes sound i h in
       let gap = vl-gap (unpacked bytes) i at ∙ ap (λ (ms : ℕ). perMs * ms) (number name.Gap (omega (arith, field-places .vl-gap))) in
       let stored = gap-in-ms (p .code) _ (ms-back _ (p .code) (p .gap)) in
@@ -115,8 +116,9 @@ module _ (bytes : List ℕ) (sound : Sound bytes) (i : ℕ) where
   unfolding networkIn
   stream-range h =
       let at : i < recordsIn (unpacked bytes) 3 = omega (arith, count-read bytes 2 (omega arith)) in
-      let number : (n : Name) → placeOf 3 n < 7 → numberAt (unpacked bytes) 3 i n ≡ named 3 (converted Reading (layout (kindIn bytes 3)) (row bytes 3 i)) n
-      = λ n l. number-read bytes 2 i n (omega arith) h (omega (arith, listed-is 3)) in
+      let all = listed-is 3 in
+      let number : (n : Name) → placeOf 3 n < listed 3 → numberAt (unpacked bytes) 3 i n ≡ named 3 (converted Reading (layout (kindIn bytes 3)) (row bytes 3 i)) n
+      = λ n l. number-read bytes 2 i n (omega arith) h l in
       let p = stream-row bytes sound i h in
       let size = stream-size (unpacked bytes) i at ∙ number name.Size (omega (arith, field-places .stream-size)) in
       let least = stream-least-size (unpacked bytes) i at ∙ number name.LeastSize (omega (arith, field-places .stream-least-size)) in
@@ -135,8 +137,9 @@ module _ (bytes : List ℕ) (sound : Sound bytes) (i : ℕ) where
   unfolding networkIn
   port-range h =
       let at : i < recordsIn (unpacked bytes) 4 = omega (arith, count-read bytes 3 (omega arith)) in
-      let number : (n : Name) → placeOf 4 n < 3 → numberAt (unpacked bytes) 4 i n ≡ named 4 (converted Reading (layout (kindIn bytes 4)) (row bytes 4 i)) n
-      = λ n l. number-read bytes 3 i n (omega arith) h (omega (arith, listed-is 4)) in
+      let all = listed-is 4 in
+      let number : (n : Name) → placeOf 4 n < listed 4 → numberAt (unpacked bytes) 4 i n ≡ named 4 (converted Reading (layout (kindIn bytes 4)) (row bytes 4 i)) n
+      = λ n l. number-read bytes 3 i n (omega arith) h l in
       let p = port-row bytes sound i h in
       let least = port-delay-least (unpacked bytes) i at ∙ number name.SwitchLeast (omega (arith, field-places .port-least)) in
       let greatest = port-delay-greatest (unpacked bytes) i at ∙ number name.SwitchGreatest (omega (arith, field-places .port-greatest)) in

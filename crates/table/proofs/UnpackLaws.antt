@@ -1,21 +1,19 @@
 -- The lists that a sound table unpacks to: they have its counts, and each row of theirs means what the table's row means, so they are packed to its bytes.
 -- Assumes nothing.
 use mathlib.Core.Path.{_≡_, refl, sym, ap, _∙_}
-use mathlib.Core.List.{List, [], _∷_, _++_}
+use mathlib.Core.List.{List, _++_}
 use mathlib.Core.Option.{none}
 use Prim.Native.Nat.{ℕ, zero, suc, _+_, _-_, _*_, _^_, _≤_, _<_}
 use native.Mathlib.Nat.{div-eq-of-eq-mul-left}
 use native.Mathlib.Omega.{arith}
-use lib.Dec.{ltb, ltb→lt}
-use lib.ListN.{length, getD, take, drop, replicate}
-use Rattle.base.proofs.Every.{at}
+use lib.ListN.{length, take, drop, replicate}
 use Rattle.bits.specs.Bits.{Bytes}
 use Rattle.base.specs.Tabulate.{total}
 use Rattle.bits.specs.Rows.{readAll}
 use Rattle.layout.specs.declared.Way.the-variants.{Reading, Writing}
 use Rattle.layout.specs.Layout.{layout, kindOf, headerNames, widths}
 use Rattle.layout.specs.Rows.{converted, listed, rowFault}
-use Rattle.layout.proofs.LayoutLaws.{listed-is, header-kind}
+use Rattle.layout.proofs.LayoutLaws.{listed-some, header-kind}
 use Rattle.table.specs.Sections.{headerRow, version, kindIn, rows, row, recordOf, records}
 use Rattle.table.specs.Lists.{listFor, recordsIn, versionFor, kindFor, headerOf, unpacked}
 use Rattle.table.specs.Write.{meantRow, tableSize, packed}
@@ -23,9 +21,6 @@ use Rattle.table.proofs.AnswerLaws.{Sound, Writable}
 use Rattle.table.proofs.SectionLaws.{padded-in, start, start-same, from-is, row-read, length-records, record-at}
 use Rattle.table.proofs.WriteLaws.{count, meant, size-is-start, packed-is}
 use Rattle.table.proofs.HeaderLaws.{header-rows, version-meant, first-row, header-short, header-meant}
-
-pub listed-some : (s : ℕ) → s < 6 → 0 < listed s
-listed-some s h = rw (listed-is s) (ltb→lt _ _ (at (λ k. ltb 0 (getD (10 ∷ 1 ∷ 4 ∷ 7 ∷ 3 ∷ 3 ∷ []) k 0)) 6 tt s h))
 
 -- a row of the table, read and written again: it is the same, and what it means has no fault
 pub record Again (bytes : List ℕ) (s i : ℕ) : Type 0 where

@@ -40,7 +40,8 @@ headerFor ls =
 -- record i of a section, with padding of zero where it has padding
 unfoldable pub meantRow : Lists → ℕ → ℕ → List ℕ
 meantRow ls section i =
-    take (listed section) (drop (i * listed section) (listFor ls section)) ++ replicate (length (layout (kindFor ls section)) - listed section) 0
+    take (listed section) (drop (i * listed section) (listFor ls section))
+    ++ replicate (length (layout (kindFor ls section)) - listed section) 0
 
 -- every list is a whole number of records: five numbers of the header, and for a section a multiple of its numbers (an end
 -- system is one number, so any list of them is whole)

@@ -6,53 +6,35 @@ use mathlib.Core.List.{List, [], _∷_, _++_}
 use mathlib.Core.Option.{Option, none, some}
 use Prim.Native.Nat.{ℕ, zero, suc, _+_, _*_, _≤_, _<_}
 use native.Mathlib.Omega.{arith}
-use lib.Dec.{leb, ltb, eqb}
+use lib.Dec.{leb, eqb}
 use lib.ListN.{length, getD, replicate, getD-replicate}
 use borrow.Author.Tests.{leb-true, ne-eqb}
 use Rattle.base.specs.Pick.{pick}
 use Rattle.base.specs.Tabulate.{tabulate}
 use Rattle.base.proofs.TabulateLaws.{tabulate-at}
-use Rattle.layout.specs.declared.Way.the-variants.{Reading}
-use Rattle.base.specs.Tests.{numberOr0}
 use Rattle.layout.specs.Layout.{headerNames}
 use Rattle.layout.specs.Contracts.{wide}
-use Rattle.layout.specs.Rows.{listed, rowFault}
+use Rattle.layout.specs.Rows.{listed}
 use Rattle.table.specs.declared.Answer.{Answer}
 use Rattle.table.specs.Answers.{answer, firstGiven}
-use Rattle.table.specs.Sections.{headerRow, rows, from, records, lent}
-use Rattle.table.specs.Unpack.{answer1, answer2, answer3, answer4, answerAtRow, badRow, badSection, needs, answer11, unpackAnswer, unpacks, left, taken}
+use Rattle.table.specs.Sections.{headerRow, rows, records, lent}
+use Rattle.table.specs.Unpack.{answer1, answer2, answer3, answer4, needs, answer11, unpackAnswer, unpacks, left, taken}
 use Rattle.table.specs.Lists.{headerOf}
 use Rattle.unpacker.specs.Unpacking.{tableAnswer, holdsIn, roomIn, judgedAnswer, lengthsIn, headerTaken}
+use Rattle.table.proofs.FirstLaws.{Refuse}
+use Rattle.table.proofs.ReadingLaws.{tableRefusals, table-refuse}
 use Rattle.table.proofs.LentLaws.{lent-none}
 use Rattle.table.proofs.SectionLaws.{rows-few}
 use Rattle.unpacker.proofs.ListLaws.{header-taken, no-header}
 
 -- ---- the answer
--- each refusal that is given has a number
-Numbered : List (Option Answer) → Type 0
-Numbered [] = Unit
-Numbered (none ∷ os) = Numbered os
-Numbered (some a ∷ os) = (0 < a .number) × Numbered os
-
-then-11 : (os : List (Option Answer)) (t : Bool) → Numbered os
+then-11 : (os : List (Option Answer)) (t : Bool) → Refuse os
     → firstGiven (os ++ (pick t none (some (answer 11 0 0 0)) ∷ [])) ≡ judgedAnswer (firstGiven os) t
-unfolding Numbered firstGiven judgedAnswer
+unfolding firstGiven judgedAnswer
 then-11 [] true h = refl
 then-11 [] false h = refl
-then-11 (none ∷ os) t h = then-11 os t h
+then-11 (none ∷ os) t h = then-11 os t (h .1)
 then-11 (some a ∷ os) t h = rw (ne-eqb (a .number) 0 (omega arith))
-
-by-pick : (t : Bool) (a : Answer) (os : List (Option Answer)) → 0 < a .number → Numbered os
-    → Numbered (pick t (some a) none ∷ os) × Numbered (pick t none (some a) ∷ os)
-unfolding Numbered
-by-pick true a os h l = ((h, l), l)
-by-pick false a os h l = (l, (h, l))
-
-by-fault : (o : Option ℕ) (f : ℕ → Answer) (os : List (Option Answer)) → ((n : ℕ) → 0 < f n .number) → Numbered os
-    → Numbered ((elim o [ none ↦ none | some n ↦ some (f n) ]) ∷ os)
-unfolding Numbered
-by-fault none f os h l = l
-by-fault (some n) f os h l = (h n, l)
 
 passed : (a : Answer) (t : Bool) → eqb (judgedAnswer a t .number) 0 ≡ true → t ≡ true
 unfolding judgedAnswer
@@ -97,14 +79,6 @@ room-was counts lengths e =
     by-section a b c d f (suc (suc (suc (suc (suc (suc s)))))) low high = absurd (omega arith)
 
 module _ (bytes : List ℕ) where
-  all-numbered : Numbered (answer1 bytes ∷ answer2 bytes ∷ answer3 bytes ∷ answer4 bytes ∷ [])
-  unfolding Numbered answer1 answer2 answer3 answer4 answerAtRow
-  all-numbered =
-      let four = by-fault (badSection bytes) (λ s. answerAtRow bytes s (numberOr0 (badRow bytes s))) [] (λ s. omega arith) tt in
-      let three = by-pick (eqb (length bytes) (from bytes 6)) (answer 3 0 0 0) (answer4 bytes ∷ []) (omega arith) four .1 in
-      let two = by-fault (rowFault Reading 0 (headerRow bytes)) (answer 2 0 0) (answer3 bytes ∷ answer4 bytes ∷ []) (λ test. omega arith) three in
-      by-pick (ltb (length bytes) 14) (answer 1 0 0 0) (answer2 bytes ∷ answer3 bytes ∷ answer4 bytes ∷ []) (omega arith) two .0
-
   module _ (lengths : List ℕ) where
     abbrev room : Bool
     room = roomIn (tabulate (rows bytes) 6) lengths
@@ -123,7 +97,7 @@ module _ (bytes : List ℕ) where
     judged-is =
         sym
         (ap (λ (o : Option Answer). firstGiven (answer1 bytes ∷ answer2 bytes ∷ answer3 bytes ∷ answer4 bytes ∷ o ∷ [])) room-is
-        ∙ then-11 (answer1 bytes ∷ answer2 bytes ∷ answer3 bytes ∷ answer4 bytes ∷ []) room all-numbered)
+        ∙ then-11 (tableRefusals bytes) room (table-refuse bytes))
 
     -- ---- what is taken
     abbrev pub counts : List ℕ

@@ -12,7 +12,7 @@ use Rattle.layout.specs.Rows.{listed}
 use Rattle.table.specs.Sections.{rows, records, lent}
 use Rattle.table.proofs.LentLaws.{lent-none}
 use Rattle.table.proofs.SectionLaws.{rows-few}
-use Rattle.table.proofs.UnpackLaws.{listed-some}
+use Rattle.layout.proofs.LayoutLaws.{listed-some}
 use Rattle.unpacker.specs.declared.examine.Places.{Places}
 use Rattle.unpacker.specs.Unpacking.{placesOf, fitting, Filling}
 use Rattle.unpacker.proofs.PlaceLaws.{version-there, count-there, start-there}

@@ -12,7 +12,7 @@ use Rattle.layout.specs.Contracts.{wide}
 use Rattle.layout.specs.Rows.{listed}
 use Rattle.layout.proofs.LayoutLaws.{few-fields, listed-fields, listed-same, size-numbers}
 use Rattle.layout.proofs.WideLaws.{wide-padded}
-use Rattle.table.proofs.UnpackLaws.{listed-some}
+use Rattle.layout.proofs.LayoutLaws.{listed-some}
 use Rattle.writer.specs.Writing.{listNumbers, listRow, HasRecord}
 
 -- ---- the records of a list take no more bytes than twice its numbers

@@ -20,42 +20,32 @@ use Rattle.table.specs.declared.Answer.{Answer}
 use Rattle.table.specs.Answers.{answer, accepted, firstGiven}
 use Rattle.table.specs.Lists.{Lists, listFor, recordsIn, versionFor}
 use Rattle.table.specs.Write.{headerFor, meantRow, whole, write2, badRecord, badList, answerAtRecord, write4, tableSize, write11, writeAnswer}
+use Rattle.table.proofs.FirstLaws.{Refuses, row-refuses}
 use Rattle.writer.specs.Writing.{given, firstOf, listNumbers, listRow, recordFault, badIn, listAnswer, headerFault, roomAnswer}
 
 -- ---- the first that refuses
--- what is given has a number
-abbrev Refuses : Option Answer → Type 0
-Refuses o = (a : Answer) → o ≡ some a → 0 < a .number
-
 refuses : (a : Answer) (b : Answer) → 0 < a .number → firstOf a b ≡ a
 refuses a b h = rw (ne-eqb (a .number) 0 (λ e. omega arith))
 
 first-of : (o : Option Answer) (os : List (Option Answer)) → Refuses o → firstGiven (o ∷ os) ≡ firstOf (given o) (firstGiven os)
 unfolding firstGiven given
 first-of none os h = refl
-first-of (some a) os h = sym (refuses a (firstGiven os) (h a refl))
+first-of (some a) os h = sym (refuses a (firstGiven os) h)
 
 last-of : (o : Option Answer) → firstGiven (o ∷ []) ≡ given o
 unfolding firstGiven given
 last-of none = refl
 last-of (some a) = refl
 
-fault-refuses : (o : Option ℕ) (f : ℕ → Answer) → ((n : ℕ) → 0 < f n .number) → Refuses (elim o [ none ↦ none | some n ↦ some (f n) ])
-fault-refuses none f h a e = let z : _≡_ {A = ℕ} 0 1 = cc in absurd (omega arith)
-fault-refuses (some n) f h a e = let same : f n ≡ a = cc in rw (← same) (h n)
-
-pick-refuses : (t : Bool) (o : Option Answer) (b : Answer) → Refuses o → 0 < b .number → Refuses (pick t o (some b))
-pick-refuses true o b h l a e = h a e
-pick-refuses false o b h l a e = let same : b ≡ a = cc in rw (← same) l
-
 -- ---- 2
 module _ (ls : Lists) where
   two-refuses : Refuses (write2 ls)
   unfolding write2
-  two-refuses =
-      pick-refuses (whole ls) (elim (rowFault Writing 0 (headerFor ls)) [ none ↦ none | some test ↦ some (answer 2 0 0 test) ]) (answer 2 0 0 0)
-      (fault-refuses (rowFault Writing 0 (headerFor ls)) (answer 2 0 0) (λ test. omega arith))
-      (omega arith)
+  two-refuses = go (whole ls)
+    where
+      go : (t : Bool) → Refuses (pick t (elim (rowFault Writing 0 (headerFor ls)) [ none ↦ none | some test ↦ some (answer 2 0 0 test) ]) (some (answer 2 0 0 0)))
+      go true = row-refuses (rowFault Writing 0 (headerFor ls)) (answer 2 0 0) (λ test. omega arith)
+      go false = omega arith
 
   pub whole-header : whole ls ≡ true → length (ls .header) ≡ length headerNames
   unfolding whole
@@ -128,7 +118,7 @@ module _ (bad : ℕ → Option ℕ) (told : ℕ → ℕ → Answer) (refused : (
 module _ (ls : Lists) where
   four-refuses : Refuses (write4 ls)
   unfolding write4 answerAtRecord
-  four-refuses = fault-refuses (badList ls) (λ s. answerAtRecord ls s (numberOr0 (badRecord ls s))) (λ s. omega arith)
+  four-refuses = row-refuses (badList ls) (λ s. answerAtRecord ls s (numberOr0 (badRecord ls s))) (λ s. omega arith)
 
   abbrev recordsAnswer : Answer
   recordsAnswer =

@@ -116,7 +116,8 @@ lateEnd v streams ports hops at = listEnd v hops 5 (listEnd v ports 4 (listEnd v
 
 abbrev pub latePut : ℕ → List ℕ → List ℕ → List ℕ → ℕ → List ℕ → List ℕ
 latePut v streams ports hops at out =
-    withList v hops 5 (listEnd v ports 4 (listEnd v streams 3 at)) (withList v ports 4 (listEnd v streams 3 at) (withList v streams 3 at out))
+    withList v hops 5 (listEnd v ports 4 (listEnd v streams 3 at))
+    (withList v ports 4 (listEnd v streams 3 at) (withList v streams 3 at out))
 
 -- the header's list is whole, and the bytes are the table's, cleared, and short
 pub record Fillable (ls : Lists) (out : List ℕ) : Type 0 where

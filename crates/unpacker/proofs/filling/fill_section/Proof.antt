@@ -6,7 +6,7 @@ use mathlib.Core.Path.{ap, _∙_}
 use native.Mathlib.Omega.{arith}
 use lib.ListN.{length}
 use Rattle.table.specs.Sections.{records, lent}
-use Rattle.table.proofs.UnpackLaws.{listed-some}
+use Rattle.layout.proofs.LayoutLaws.{listed-some}
 use Rattle.unpacker.proofs.SectionParts.{nothing-fits, fitting-is, fits-here}
 use borrow.Author.Needs.{needs}
 use Rattle.unpacker.proofs.filling.fill_section.Statement.{statement}

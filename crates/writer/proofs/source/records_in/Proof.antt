@@ -1,7 +1,7 @@
 -- `writer::source::records_in` meets its contract: a section that is there has numbers to divide by.
 -- Assumes nothing.
 use native.Mathlib.Omega.{arith}
-use Rattle.table.proofs.UnpackLaws.{listed-some}
+use Rattle.layout.proofs.LayoutLaws.{listed-some}
 use borrow.Author.Needs.{needs}
 use Rattle.writer.proofs.source.records_in.Statement.{statement}
 use Rattle.writer.proofs.source.records_in.Tie as tie
