@@ -28,7 +28,7 @@ ghost use Rattle.layout.specs.Contracts.{withRowAt, wide, orderFault, fa
 pub enum Kind {
     // a number from the first to the second
     Number(u64, u64),
-    // a row of another kind, or a sub-link: any number
+    // a row of another section, or a sub-link: any number
     Reference,
     // zero
     Padding,

@@ -1,4 +1,4 @@
-// The fields of each kind of record, in order: what differs between kinds. A kind's name, widths and what each field stands for are data here and nowhere else in code.
+// The fields of each kind of record, in order: what differs between kinds. Their names, widths and what they stand for are here and nowhere else in code.
 // Each is chosen by its number, not read from an array, which would be built anew at each call.
 use crate::Kind;
 use crate::Name;
