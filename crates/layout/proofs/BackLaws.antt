@@ -17,9 +17,10 @@ use Rattle.bits.proofs.PartLaws.{fit-at, fit-of}
 use Rattle.layout.specs.declared.Kind.{Kind}
 use Rattle.layout.specs.declared.Kind.the-variants.{Number, Reference, Padding, Gap, LessOne, Speed}
 use Rattle.layout.specs.declared.Shape.{Shape}
+use Rattle.layout.specs.declared.Order.{Order}
 use Rattle.layout.specs.declared.Way.{Way}
 use Rattle.layout.specs.declared.Way.the-variants.{Reading, Writing}
-use Rattle.layout.specs.Layout.{header, stream, port, layoutIn, layout, placeOf, blank, Order, orders, widths}
+use Rattle.layout.specs.Layout.{header, stream, port, layoutIn, layout, placeOf, blank, orders, widths}
 use Rattle.layout.specs.Names.{numberOf, indexIn, placeIn}
 use Rattle.layout.specs.Fields.{convert}
 use Rattle.base.specs.Tests.{numberOr0}

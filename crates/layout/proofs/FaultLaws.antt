@@ -14,8 +14,9 @@ use lib.Seq.{ext-getD, getD-append-add}
 use borrow.Author.Tests.{not-true, not-false, leb-true, le-leb}
 use Rattle.base.proofs.LeastLaws.{least-is, least-none, least-was, none-was}
 use Rattle.layout.specs.declared.Shape.{Shape}
+use Rattle.layout.specs.declared.Order.{Order}
 use Rattle.layout.specs.declared.Way.{Way}
-use Rattle.layout.specs.Layout.{layout, placeOf, blank, Order, orders}
+use Rattle.layout.specs.Layout.{layout, placeOf, blank, orders}
 use Rattle.layout.specs.Names.{placeIn}
 use Rattle.layout.specs.Fields.{convert}
 use Rattle.base.specs.Tests.{numberOr0, isSome, firstFailing}

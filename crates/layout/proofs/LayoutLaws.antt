@@ -91,8 +91,11 @@ none-below : (n k : ℕ) → NoneBelow n k → n ≤ k
 none-below zero k h = omega arith
 none-below (suc n) k (h, d) = let l = none-below n k h in omega arith
 
+pub none-after : {A : Type 0} (xs : List A) (d : A) (k : ℕ) → NoneBelow (length xs) k → d ≡ getD xs k d
+none-after xs d k h = sym (List·getD-eq-default xs d (none-below (length xs) k h))
+
 pub no-field : (ss : List Shape) (k : ℕ) → NoneBelow (length ss) k → blank ≡ getD ss k blank
-no-field ss k h = sym (List·getD-eq-default ss blank (none-below (length ss) k h))
+no-field ss k h = none-after ss blank k h
 
 -- ---- the test
 all-sound : T (every (λ s. soundSection (layout s) (listed s)) 6)

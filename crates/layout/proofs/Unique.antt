@@ -18,6 +18,10 @@ use Rattle.layout.proofs.longest_table.Kinds as longest-kinds
 use Rattle.layout.proofs.longest_table.Reads as longest-reads
 use Rattle.layout.proofs.shapes.shape_at.Kinds as shape-kinds
 use Rattle.layout.proofs.shapes.shape_at.Reads as shape-reads
+use Rattle.layout.proofs.orders.orders_in.Kinds as orders-kinds
+use Rattle.layout.proofs.orders.orders_in.Reads as orders-reads
+use Rattle.layout.proofs.orders.order_at.Kinds as order-kinds
+use Rattle.layout.proofs.orders.order_at.Reads as order-reads
 use Rattle.layout.proofs.row_at.Kinds as row-kinds
 use Rattle.layout.proofs.row_at.Reads as row-reads
 use Rattle.layout.proofs.put_row.Kinds as put-kinds
@@ -44,6 +48,12 @@ longest κs a x y ws vs p q = (p ∙ sym q, refl)
 
 pub shape : Settles 0 shape-kinds.ps shape-kinds.r shape-reads.Post
 shape κs a x y ws vs p q = (p ∙ sym q, refl)
+
+pub orders : Settles 0 orders-kinds.ps orders-kinds.r orders-reads.Post
+orders κs a x y ws vs p q = (p ∙ sym q, refl)
+
+pub order : Settles 0 order-kinds.ps order-kinds.r order-reads.Post
+order κs a x y ws vs p q = (p ∙ sym q, refl)
 
 pub row : Settles 1 row-kinds.ps row-kinds.r row-reads.Post
 row κs a x y ws vs p q = (p ∙ sym q, refl)

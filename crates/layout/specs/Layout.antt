@@ -9,6 +9,7 @@ use Rattle.layout.specs.declared.Kind.the-variants.{Number, Reference, P
 use Rattle.layout.specs.declared.Name.{Name}
 use Rattle.layout.specs.declared.Name.the-variants as name
 use Rattle.layout.specs.declared.Shape.{Shape}
+use Rattle.layout.specs.declared.Order.{Order}
 use Rattle.layout.specs.Limits.{Limits, limits}
 use Rattle.layout.specs.Names.{placeIn}
 
@@ -99,10 +100,6 @@ abbrev pub headerNames : List Name
 headerNames = name.Version ∷ name.SendLeast ∷ name.SendGreatest ∷ name.ReceiveLeast ∷ name.ReceiveGreatest ∷ []
 
 -- one field that is at most another: "each least at most its greatest", "least M 1 to M"
-pub record Order : Type 0 where
-  pub lesser : Name
-  pub greater : Name
-
 abbrev order : Name → Name → Order
 order a b = record { lesser = a; greater = b }
 
@@ -118,6 +115,10 @@ orders kind =
     ∷ []
     ∷ [])
     kind []
+
+-- what a record has past its last pair, where a contract speaks of the pair at a place
+abbrev pub noOrder : Order
+noOrder = order name.Padding name.Padding
 
 -- the widths of a record's fields, and its bytes: 14, 1, 3, 13, 4 and 4
 unfoldable pub widths : ℕ → List ℕ

@@ -13,9 +13,10 @@ use Rattle.bits.specs.Rows.{readAll}
 use Rattle.layout.specs.declared.Shape.{Shape}
 use Rattle.layout.specs.declared.Way.{Way}
 use Rattle.layout.specs.declared.Name.{Name}
+use Rattle.layout.specs.declared.Order.{Order}
 use Rattle.layout.specs.Limits.{Limits, limits}
 use Rattle.layout.specs.Names.{placeIn}
-use Rattle.layout.specs.Layout.{layoutIn, layout, placeOf, Order, orders, widths}
+use Rattle.layout.specs.Layout.{layoutIn, layout, placeOf, orders, widths}
 use Rattle.layout.specs.Fields.{isPadding, convert}
 
 -- ---- a row in the table

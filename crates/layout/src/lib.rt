@@ -1,11 +1,14 @@
 // The layout of the packed table as data, and a record of it as a row of numbers: read, tested, meant, stored and written.
 // One body serves every kind of record: what differs between kinds stands in `shapes`, and in the three sizes and the order of fields below.
+mod orders;
 pub mod places;
 mod shapes;
 pub mod sizes;
 
 use bits::Cursor;
 use frame::Reply;
+pub use orders::order_at;
+pub use orders::orders_in;
 pub use shapes::shape_at;
 use sizes::KINDS;
 use sizes::LONGEST;
@@ -76,6 +79,12 @@ pub struct Shape {
     pub name: Name,
     pub width: usize,
     pub kind: Kind,
+}
+
+// Two fields of a record of which one is at most the other.
+pub struct Order {
+    pub lesser: Name,
+    pub greater: Name,
 }
 
 // Whether numbers are read from the table or are to be written to it.
