@@ -56,25 +56,22 @@ pub fn unit(n: Name) {
         Name::Streams => text(b"records of section 3"),
         Name::Ports => text(b"records of section 4"),
         Name::Hops => text(b"records of section 5"),
-        Name::SendLeast => text(b"ticks of 80 ns"),
-        Name::SendGreatest => text(b"ticks of 80 ns"),
-        Name::ReceiveLeast => text(b"ticks of 80 ns"),
-        Name::ReceiveGreatest => text(b"ticks of 80 ns"),
+        Name::SendLeast
+        | Name::SendGreatest
+        | Name::ReceiveLeast
+        | Name::ReceiveGreatest
+        | Name::Period
+        | Name::Jitter
+        | Name::SwitchLeast
+        | Name::SwitchGreatest => text(b"ticks of 80 ns"),
         Name::Padding => text(b"fills the last byte"),
-        Name::Speed => text(b"code"),
+        Name::Speed | Name::Gap => text(b"code"),
         Name::EndSystem => text(b"row of section 1"),
-        Name::Gap => text(b"code"),
         Name::SubLinks => text(b"sub-links less one"),
-        Name::Lmax => text(b"bytes"),
+        Name::Lmax | Name::Size | Name::LeastSize => text(b"bytes"),
         Name::Vl => text(b"row of section 2"),
         Name::SubLink => text(b"sub-link of the VL, from 0"),
         Name::Kind => text(b"0: queuing, 1: sampling"),
-        Name::Size => text(b"bytes"),
-        Name::LeastSize => text(b"bytes"),
-        Name::Period => text(b"ticks of 80 ns"),
-        Name::Jitter => text(b"ticks of 80 ns"),
-        Name::SwitchLeast => text(b"ticks of 80 ns"),
-        Name::SwitchGreatest => text(b"ticks of 80 ns"),
         Name::Port => text(b"row of section 4"),
         Name::Parent => text(b"0: none, else row of section 5 plus 1"),
     }
