@@ -1,1 +1,3 @@
 pub mod Notation
+pub mod Meant
+pub mod Printed
