@@ -1,3 +1,4 @@
 pub mod Notation
 pub mod Meant
 pub mod Printed
+pub mod Back
