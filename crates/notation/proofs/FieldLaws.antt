@@ -67,7 +67,7 @@ kinds-found : T (every (found (choices name.Kind)) (length (choices name.Kind)))
 unfolding choices numberOf found isAt wordIn same isWord all inWord inLine ends blank hash feed
 kinds-found = tt
 
-choices-are : (n : Name) → choices n ≡ pick (is n name.Kind) (choices name.Kind) []
+pub choices-are : (n : Name) → choices n ≡ pick (is n name.Kind) (choices name.Kind) []
 unfolding choices numberOf
 choices-are n = refl
 
@@ -79,6 +79,44 @@ choice-found n v d h = go (is n name.Kind) (choices-are n)
     go false e = absurd (omega (arith, rw e at h))
 
 -- ---- a field, by its form
+pub kind-form : formOf name.Kind ≡ Choice
+unfolding formOf numberOf
+kind-form = refl
+
+pub parent-form : formOf name.Parent ≡ Parent
+unfolding formOf numberOf
+parent-form = refl
+
+pub other-form : (n : Name) → (n ≡ name.Kind → ⊥) → (n ≡ name.Parent → ⊥) → formOf n ≡ Decimal
+unfolding formOf numberOf
+other-form name.Version a b = refl
+other-form name.EndSystems a b = refl
+other-form name.Vls a b = refl
+other-form name.Streams a b = refl
+other-form name.Ports a b = refl
+other-form name.Hops a b = refl
+other-form name.SendLeast a b = refl
+other-form name.SendGreatest a b = refl
+other-form name.ReceiveLeast a b = refl
+other-form name.ReceiveGreatest a b = refl
+other-form name.Padding a b = refl
+other-form name.Speed a b = refl
+other-form name.EndSystem a b = refl
+other-form name.Gap a b = refl
+other-form name.SubLinks a b = refl
+other-form name.Lmax a b = refl
+other-form name.Vl a b = refl
+other-form name.SubLink a b = refl
+other-form name.Kind a b = absurd (a refl)
+other-form name.Size a b = refl
+other-form name.LeastSize a b = refl
+other-form name.Period a b = refl
+other-form name.Jitter a b = refl
+other-form name.SwitchLeast a b = refl
+other-form name.SwitchGreatest a b = refl
+other-form name.Port a b = refl
+other-form name.Parent a b = absurd (b refl)
+
 module _ (n : Name) (v : ℕ) where
   pub decimal-words : formOf n ≡ Decimal → fieldWords n v ≡ decimal v ∷ []
   unfolding fieldWords

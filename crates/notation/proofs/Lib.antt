@@ -1,3 +1,4 @@
 pub mod FieldLaws
 pub mod LineLaws
 pub mod BackLaws
+pub mod PrintedLaws

@@ -1,6 +1,6 @@
 -- The text that is printed for the lists of a table: a line for the version, one for the delays, and one for each record, section by section.
 -- Assumes nothing.
-use Prim.Native.Nat.{ℕ, zero, suc, _+_, _*_, _/_}
+use Prim.Native.Nat.{ℕ, zero, suc, _+_, _*_, _/_, _≤_}
 use mathlib.Core.List.{List, [], _∷_, _++_, map}
 use lib.Dec.{eqb}
 use lib.ListN.{length, getD, take, drop}
@@ -43,3 +43,8 @@ tableLines lists =
 
 unfoldable pub printed : (ℕ → List ℕ) → List ℕ
 printed lists = textOf (map lineOf (tableLines lists))
+
+-- A line has at most 197 bytes: a keyword of at most seven, at most seven fields of at most 27 with the spaces before their words (of
+-- `after` and a row: two spaces, five letters and 20 digits), and the line feed.
+abbrev pub LineFits : Type 0
+LineFits = (version section : ℕ) (ns : List ℕ) → length (lineOf (lineWords version section ns) ++ (10 ∷ [])) ≤ 197
