@@ -3,7 +3,7 @@
 -- Assumes nothing.
 use Prim.Native.Nat.{ℕ, zero, suc, _+_, _*_, _/_, _≤_, _<_}
 use mathlib.Core.Path.{_≡_, refl, sym, ap, ap₂, _∙_}
-use mathlib.Core.Bool.{Bool, true, false, _&&_}
+use mathlib.Core.Bool.{Bool, true, false}
 use mathlib.Core.List.{List, [], _∷_, _++_, map, append-assoc, append-nil, map-append}
 use native.Mathlib.Omega.{arith}
 use native.Mathlib.Decide.{ℕ-discrete}
@@ -17,13 +17,12 @@ use Rattle.base.proofs.Tests.{within-yes, within-above, same-test}
 use Rattle.layout.specs.Names.{numberOf}
 use Rattle.layout.specs.Layout.{layoutIn, header}
 use Rattle.layout.specs.Rows.{listed}
-use Rattle.text.specs.Text.{all}
-use Rattle.words.specs.Words.{linesOf, wordsOf}
-use Rattle.words.specs.Printed.{areWords, inLine, areLines, lineOf, textOf}
+use Rattle.words.specs.Words.{wordsOf}
+use Rattle.words.specs.Printed.{areWords, areLines, lineOf, textOf}
 use Rattle.words.proofs.WordLaws.{no-words}
 use Rattle.words.proofs.PrintedLaws.{words-back, lines-back, words-are-a-line}
 use Rattle.notation.specs.Notation.{Word, versionLine, lineFields, formOf}
-use Rattle.notation.specs.Meant.{Line, numbers, of, lineSaid, textLines, numbersOf, sectionIn, versionIn, listIn}
+use Rattle.notation.specs.Meant.{lineSaid, textLines, numbersOf, sectionIn, versionIn, listIn}
 use Rattle.notation.specs.Printed.{lineWords, recordIn, sectionLines, recordLines, tableLines, printed}
 use Rattle.notation.specs.Back.{spoken, sayable, Sayable, Printable, ReadBack}
 use Rattle.notation.proofs.LineLaws.{line-back, line-are-words}

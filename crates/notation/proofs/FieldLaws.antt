@@ -2,7 +2,7 @@
 -- behind them.
 -- Assumes nothing.
 use Prim.Native.Nat.{ℕ, zero, suc, _-_, _^_, _≤_, _<_, min}
-use mathlib.Core.Path.{_≡_, refl, sym, ap, _∙_}
+use mathlib.Core.Path.{_≡_, refl, ap, _∙_}
 use mathlib.Core.Bool.{Bool, true, false, _&&_}
 use mathlib.Core.List.{List, [], _∷_, _++_}
 use mathlib.Core.Option.{Option, none, some}
@@ -22,7 +22,7 @@ use Rattle.words.proofs.PrintedLaws.{number-back}
 use Rattle.notation.specs.declared.Form.{Form}
 use Rattle.notation.specs.declared.Form.the-variants.{Decimal, Choice, Parent}
 use Rattle.notation.specs.Notation.{Word, keywords, wordIn, formOf, choices, noneWord, afterWord, parentWords, fieldWords}
-use Rattle.notation.specs.Meant.{Taken, taken, rowFrom, fieldFrom}
+use Rattle.notation.specs.Meant.{taken, rowFrom, fieldFrom}
 use Rattle.notation.specs.Back.{spoken, FieldBack}
 
 -- ---- lists of words

@@ -2,3 +2,4 @@ pub mod FieldLaws
 pub mod LineLaws
 pub mod BackLaws
 pub mod PrintedLaws
+pub mod AcceptedLaws

@@ -1,20 +1,19 @@
 -- The words of a line say its section and its numbers, field by field; those of a field that has none are passed over.
 -- Assumes nothing.
-use Prim.Native.Nat.{ℕ, _≤_, _<_}
-use mathlib.Core.Path.{_≡_, refl, sym, ap, _∙_}
+use Prim.Native.Nat.{ℕ, _≤_}
+use mathlib.Core.Path.{_≡_, refl}
 use mathlib.Core.Bool.{Bool, true, false, _&&_}
 use mathlib.Core.List.{List, [], _∷_, _++_}
 use native.Mathlib.Omega.{arith}
 use lib.Dec.{eqb}
-use lib.ListN.{getD}
 use Rattle.base.specs.Pick.{pick}
 use Rattle.layout.specs.declared.Shape.{Shape}
 use Rattle.words.specs.Printed.{isWord, areWords}
-use Rattle.notation.specs.Notation.{Word, keywords, lineFields, fieldWords}
-use Rattle.notation.specs.Meant.{Said, numbers, withNumber, fieldsFrom, lineSaid}
+use Rattle.notation.specs.Notation.{Word, lineFields, fieldWords}
+use Rattle.notation.specs.Meant.{numbers, withNumber, fieldsFrom, lineSaid}
 use Rattle.notation.specs.Printed.{fieldsWords, lineWords}
 use Rattle.notation.specs.Back.{sayable, Sayable, LineBack}
-use Rattle.notation.proofs.FieldLaws.{Found, keyword-found, field-back, field-are-words}
+use Rattle.notation.proofs.FieldLaws.{keyword-found, field-back, field-are-words}
 
 fields-back : (ss : List Shape) (ns : List ℕ) → Sayable ss ns → fieldsFrom ss (fieldsWords ss ns) ≡ numbers ns
 unfolding Sayable sayable fieldsFrom fieldsWords withNumber

@@ -7,7 +7,7 @@ use mathlib.Core.List.{List, [], _∷_, _++_, append-assoc, append-nil}
 use native.Mathlib.Omega.{arith}
 use native.Mathlib.Decide.{ℕ-discrete, decLt}
 use lib.Dec.{eqb, leb, leb→le}
-use lib.ListN.{length, getD, take, drop, length-append, length-take, List·getD-eq-default}
+use lib.ListN.{length, getD, take, length-append, length-take, List·getD-eq-default}
 use lib.Seq.{take-nil, getD-take}
 use Rattle.base.specs.Pick.{pick}
 use Rattle.base.proofs.Every.{at}

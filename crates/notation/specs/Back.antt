@@ -3,16 +3,18 @@
 use Prim.Native.Nat.{ℕ, _*_, _/_, _^_, _≤_, _<_}
 use mathlib.Core.Path.{_≡_}
 use mathlib.Core.List.{List, [], _∷_, _++_}
-use mathlib.Core.Option.{some}
+use mathlib.Core.Option.{none, some}
 use lib.Dec.{eqb}
-use lib.ListN.{length, getD, drop}
+use lib.ListN.{length, getD, take, drop}
 use Rattle.base.specs.Pick.{pick}
 use Rattle.layout.specs.declared.Name.{Name}
 use Rattle.layout.specs.declared.Shape.{Shape}
-use Rattle.layout.specs.Rows.{listed}
+use Rattle.layout.specs.declared.Way.the-variants.{Writing}
+use Rattle.layout.specs.Layout.{kindOf}
+use Rattle.layout.specs.Rows.{listed, rowFault}
 use Rattle.notation.specs.declared.Form.the-variants.{Decimal, Choice, Parent}
 use Rattle.notation.specs.Notation.{Word, versionLine, lineFields, formOf, choices, fieldWords}
-use Rattle.notation.specs.Meant.{Taken, numbers, of, fieldFrom, lineSaid, listIn}
+use Rattle.notation.specs.Meant.{numbers, of, fieldFrom, lineSaid, listIn}
 use Rattle.notation.specs.Printed.{lineWords, recordIn, printed}
 
 -- The words of a field can say the numbers below this: all of 64 bits, or as many as there are words to choose from.
@@ -51,3 +53,12 @@ LineBack = (version section : ℕ) (ns : List ℕ) → section ≤ versionLine �
 -- A text: the list of each section.
 abbrev pub ReadBack : Type 0
 ReadBack = (lists : ℕ → List ℕ) → Printable lists → (s : ℕ) → s ≤ 5 → listIn (printed lists) s ≡ lists s
+
+-- What the writer accepts can be said: the numbers of a record in which it finds no fault, and the delays of such a header.
+abbrev pub RecordSayable : Type 0
+RecordSayable = (version section : ℕ) (row : List ℕ) → 1 ≤ section → section ≤ 5 → listed section ≤ length row
+    → rowFault Writing (kindOf version section) row ≡ none → Sayable (lineFields version section) (take (listed section) row)
+
+abbrev pub DelaysSayable : Type 0
+DelaysSayable = (version : ℕ) (row : List ℕ) → 10 ≤ length row
+    → rowFault Writing 0 row ≡ none → Sayable (lineFields version 0) (take 4 (drop 6 row))

@@ -4,7 +4,7 @@ use borrow.Author.Needs.{needs}
 use Prim.Native.Nat.{_-_, _≤_}
 use native.Mathlib.Omega.{arith}
 use native.Mathlib.Numerals.{add-one}
-use lib.ListN.{length, take}
+use lib.ListN.{take}
 use Rattle.words.specs.Printed.{lineFrom}
 use Rattle.text.specs.Text.{Puts}
 use Rattle.text.proofs.PutLaws.{puts-none, puts-more, length-puts}

@@ -1,12 +1,10 @@
 -- `printer::put_words` meets its contract: the form of a field is that of its name, and all but two are in decimal.
 -- Assumes nothing.
 use borrow.Author.Needs.{needs}
-use mathlib.Core.Path.{_≡_}
 use types.Run.{miss}
 use Prim.Native.Nat.{ℕ}
 use mathlib.Core.List.{List, [], _∷_}
 use lib.ListN.{getD}
-use Rattle.layout.specs.declared.Name.{Name}
 use Rattle.layout.specs.declared.Name.the-variants as name
 use Rattle.text.specs.Text.{decimal}
 use Rattle.notation.specs.Notation.{choices}
