@@ -1,18 +1,20 @@
 -- A number that the writer accepts in a field is at most the greatest of the field's kind, and that can be said: tested once over the fields
 -- of all lines, and antt computes the test.
 -- Assumes nothing.
-use Prim.Native.Nat.{ℕ, zero, suc, _+_, _-_, _^_, _≤_, _<_}
+use Prim.Native.Nat.{ℕ, zero, suc, _+_, _-_, _*_, _/_, _^_, _≤_, _<_}
 use mathlib.Core.Path.{_≡_, refl, sym, _∙_}
 use mathlib.Core.Bool.{Bool, true, false, _&&_, false≢true}
-use mathlib.Core.List.{List, [], _∷_}
+use mathlib.Core.List.{List, [], _∷_, _++_}
 use mathlib.Core.Option.{none, some, Option·none-ne-some}
 use native.Mathlib.Omega.{arith}
-use native.Mathlib.Nat.{add-comm}
+use native.Mathlib.Nat.{add-comm, mul-le-mul-right}
 use borrow.Author.Tests.{eqb-true, leb-true, ltb-true}
 use lib.Dec.{T, eqb, leb, ltb}
-use lib.ListN.{length, getD, take, drop, length-drop}
-use lib.Seq.{length-take-le, getD-take, getD-drop}
+use lib.ListN.{length, getD, take, drop, length-append, length-take, length-drop}
+use lib.Seq.{take-all, drop-at, length-take-le, getD-take, getD-drop}
 use Rattle.base.specs.Pick.{pick, within}
+use Rattle.base.specs.Tabulate.{tabulate}
+use Rattle.base.proofs.TabulateLaws.{length-tabulate}
 use Rattle.base.proofs.Every.{left, right, is-true}
 use Rattle.base.proofs.Tests.{pick-gave}
 use Rattle.frame.proofs.GapLaws.{code-was, good-was}
@@ -28,7 +30,8 @@ use Rattle.layout.proofs.FieldLaws.{number-was, padding-converted}
 use Rattle.layout.proofs.FaultLaws.{faultless}
 use Rattle.layout.proofs.LayoutLaws.{listed-same, listed-fields, fields-are}
 use Rattle.notation.specs.Notation.{lineFields, formOf, choices}
-use Rattle.notation.specs.Back.{spoken, sayable, Sayable, RecordSayable, DelaysSayable}
+use Rattle.notation.specs.Printed.{recordIn}
+use Rattle.notation.specs.Back.{spoken, sayable, Sayable, RecordSayable, DelaysSayable, headerOf, Acceptable, AcceptedPrintable}
 use Rattle.notation.proofs.PrintedLaws.{delays-count, record-count, delay-field, record-field}
 
 -- ---- one field
@@ -126,3 +129,65 @@ delays-sayable v row long e =
     (λ k l.
     rw (← delay-field v k (omega (arith, count)), getD-take 4 (drop 6 row) k 0 (omega (arith, count)), getD-drop 6 row k 0, add-comm 6 k)
     (good .fields (k + 6) (omega (arith, count, fields-are 0))))
+
+-- ---- the lists of a table
+-- a record of a list is whole
+record-long : (list : List ℕ) (s i : ℕ) → length list / listed s * listed s ≡ length list → i < length list / listed s
+    → length (recordIn list s i) ≡ listed s
+unfolding recordIn
+record-long list s i whole h =
+    let n = length list / listed s in
+    let l = listed s in
+    let within : suc i * l ≤ n * l = mul-le-mul-right l h in
+    rw (length-take l (drop (i * l) list), length-drop (i * l) list) (omega (arith, within, whole))
+
+-- the header: its version, its delays, and how long it is
+module _ (l counts : List ℕ) (five : length l ≡ 5) (known : length counts ≡ 5) where
+  head-version : getD (take 1 l ++ counts ++ drop 1 l) 0 0 ≡ getD l 0 1
+  head-version = go l five
+    where
+      go : (m : List ℕ) → length m ≡ 5 → getD (take 1 m ++ counts ++ drop 1 m) 0 0 ≡ getD m 0 1
+      go [] e = absurd (omega arith)
+      go (v ∷ m) e = refl
+
+  head-delays : take 4 (drop 6 (take 1 l ++ counts ++ drop 1 l)) ≡ drop 1 l
+  head-delays = go l five
+    where
+      go : (m : List ℕ) → length m ≡ 5 → take 4 (drop 6 (take 1 m ++ counts ++ drop 1 m)) ≡ drop 1 m
+      go [] e = absurd (omega arith)
+      go (v ∷ m) e = rw (drop-at counts m 5 known) (take-all 4 m (omega arith))
+
+  head-long : length (take 1 l ++ counts ++ drop 1 l) ≡ 10
+  head-long = simp (length-append, length-take, length-drop) (omega arith)
+
+module _ (lists : ℕ → List ℕ) (a : Acceptable lists) where
+  counts : List ℕ
+  counts = tabulate (λ s. length (lists (suc s)) / listed (suc s)) 5
+
+  counts-known : length counts ≡ 5
+  unfolding counts
+  counts-known = length-tabulate (λ s. length (lists (suc s)) / listed (suc s)) 5
+
+  version-one : getD (lists 0) 0 1 ≤ 1
+  unfolding headerOf counts layoutIn header greatest
+  version-one =
+      rw (head-version (lists 0) counts (a .head) counts-known) at
+      (accepted-most (getD (layout 0) 0 blank) _ _ (faultless Writing 0 (headerOf lists) (a .header) .fields 0 (omega arith)))
+
+  delays-said : Sayable (lineFields (getD (lists 0) 0 1) 0) (drop 1 (lists 0))
+  unfolding headerOf counts
+  delays-said =
+      rw (head-delays (lists 0) counts (a .head) counts-known) at
+      (delays-sayable (getD (lists 0) 0 1) (headerOf lists) (omega (arith, head-long (lists 0) counts (a .head) counts-known)) (a .header))
+
+pub accepted-printable : AcceptedPrintable
+accepted-printable lists a = record {
+  version = omega (arith, version-one lists a);
+  delays = delays-said lists a;
+  whole = a .whole;
+  records = λ s i low high h.
+      let row = recordIn (lists s) s i in
+      let long = record-long (lists s) s i (a .whole s low high) h in
+      rw (take-all (listed s) row (omega arith)) at
+      (record-sayable (getD (lists 0) 0 1) s row low high (omega arith) (a .records s i low high h));
+}

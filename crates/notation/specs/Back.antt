@@ -1,12 +1,13 @@
 -- What is printed is read back: the numbers that words can say, the lists that a text can say, and that the text printed for these says them.
 -- Assumes nothing.
-use Prim.Native.Nat.{ℕ, _*_, _/_, _^_, _≤_, _<_}
+use Prim.Native.Nat.{ℕ, suc, _*_, _/_, _^_, _≤_, _<_}
 use mathlib.Core.Path.{_≡_}
 use mathlib.Core.List.{List, [], _∷_, _++_}
 use mathlib.Core.Option.{none, some}
 use lib.Dec.{eqb}
 use lib.ListN.{length, getD, take, drop}
 use Rattle.base.specs.Pick.{pick}
+use Rattle.base.specs.Tabulate.{tabulate}
 use Rattle.layout.specs.declared.Name.{Name}
 use Rattle.layout.specs.declared.Shape.{Shape}
 use Rattle.layout.specs.declared.Way.the-variants.{Writing}
@@ -62,3 +63,19 @@ RecordSayable = (version section : ℕ) (row : List ℕ) → 1 ≤ section → s
 abbrev pub DelaysSayable : Type 0
 DelaysSayable = (version : ℕ) (row : List ℕ) → 10 ≤ length row
     → rowFault Writing 0 row ≡ none → Sayable (lineFields version 0) (take 4 (drop 6 row))
+
+-- The header that the lists ask for: the version, the counts and the delays.
+unfoldable pub headerOf : (ℕ → List ℕ) → List ℕ
+headerOf lists = take 1 (lists 0) ++ tabulate (λ s. length (lists (suc s)) / listed (suc s)) 5 ++ drop 1 (lists 0)
+
+-- Lists that the writer accepts: whole records, and no fault in any row; a row goes on with zeros where it has padding.
+pub record Acceptable (lists : ℕ → List ℕ) : Type 0 where
+  pub head : length (lists 0) ≡ 5
+  pub header : rowFault Writing 0 (headerOf lists) ≡ none
+  pub whole : (s : ℕ) → 1 ≤ s → s ≤ 5 → length (lists s) / listed s * listed s ≡ length (lists s)
+  pub records : (s i : ℕ) → 1 ≤ s → s ≤ 5 → i < length (lists s) / listed s
+      → rowFault Writing (kindOf (getD (lists 0) 0 1) s) (recordIn (lists s) s i) ≡ none
+
+-- A text can say them.
+abbrev pub AcceptedPrintable : Type 0
+AcceptedPrintable = (lists : ℕ → List ℕ) → Acceptable lists → Printable lists
