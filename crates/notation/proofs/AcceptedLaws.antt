@@ -1,5 +1,5 @@
--- A number that the writer accepts in a field is at most the greatest of the field's kind, and that can be said: tested once over the fields
--- of all lines, and antt computes the test.
+-- A number that the writer accepts in a field is at most the greatest of the field's kind, and that can be said: tested once over the
+-- fields of all lines, and antt computes the test.
 -- Assumes nothing.
 use Prim.Native.Nat.{ℕ, zero, suc, _+_, _-_, _*_, _/_, _^_, _≤_, _<_}
 use mathlib.Core.Path.{_≡_, refl, sym, _∙_}

@@ -1,4 +1,5 @@
--- What is printed is read back: the numbers that words can say, the lists that a text can say, and that the text printed for these says them.
+-- What is printed is read back: the numbers that words can say, the lists that a text can say, and that the text printed for these says
+-- them; and that a text can say what the writer accepts.
 -- Assumes nothing.
 use Prim.Native.Nat.{ℕ, suc, _*_, _/_, _^_, _≤_, _<_}
 use mathlib.Core.Path.{_≡_}

@@ -1,4 +1,5 @@
--- The text that is printed for the lists of a table: a line for the version, one for the delays, and one for each record, section by section.
+-- The text that is printed for the lists of a table: a line for the version, one for the delays, and one for each record, section by
+-- section.
 -- Assumes nothing.
 use Prim.Native.Nat.{ℕ, zero, suc, _*_, _/_, _≤_}
 use mathlib.Core.List.{List, [], _∷_, _++_, map}

@@ -1,5 +1,5 @@
-// Puts a record of a table as a line of words at a place of a text, and answers the place behind it: the delays, the version, and the records
-// of every section. Every routine answers for all input: what does not fit is left out.
+// Puts a record of a table as a line of words at a place of a text, and answers the place behind it: the delays, the version, and the
+// records of every section. Every routine answers for all input: what does not fit is left out.
 use layout::Name;
 use layout::Shape;
 ghost use mathlib.Core.List.{[], _∷_, _++_};

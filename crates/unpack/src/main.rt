@@ -1,6 +1,6 @@
 // Reads a packed table from standard input and writes it as text, a line for each record; or the word refused with number, section and row.
-// What the words are, `printer` says; here is what prints: each line is proved to be that of its record. A read or a write that fails is said
-// on standard error, and nothing is written after it.
+// What the words are, `printer` says; here is what prints: each line is proved to be that of its record. A read or a write that fails is
+// said on standard error, and nothing is written after it.
 use layout::sizes;
 ghost use mathlib.Core.List.{[], _∷_, _++_};
 ghost use mathlib.Core.Bool.{true};
@@ -38,7 +38,8 @@ fn refusal_line(answer: Answer, out: &mut [u8; LINE]) -> usize
 fn numbers_line(version: u64, section: usize, numbers: &[u64], out: &mut [u8; LINE]) -> usize
     requires { ⌜ length (now out) ≡ 197 ⌝ }
     ensures { λ r.
-        ⌜ (take r (now (out .exit)) ≡ lineOf (lineWords version section (now (numbers .entry))) ++ (10 ∷ [])) × (length (now (out .exit)) ≡ 197) ⌝ }
+        ⌜ (take r (now (out .exit)) ≡ lineOf (lineWords version section (now (numbers .entry))) ++ (10 ∷ []))
+        × (length (now (out .exit)) ≡ 197) ⌝ }
 {
     printer::put_record(out, 0, version, section, numbers)
 }

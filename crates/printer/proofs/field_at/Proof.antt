@@ -22,13 +22,15 @@ returns : tie.Need-returns
 returns c =
     let a = c .before .before .args in
     let e = c .before .match .keys1 in
-    rw e (c .shape-at .ensures ∙ delay-field (a .version) (a .k) (among (a .version) (a .section) 0 4 (a .k) e (delays-count _) (c .before .before .pre)))
+    let h = among (a .version) (a .section) 0 4 (a .k) e (delays-count _) (c .before .before .pre) in
+    rw e (c .shape-at .ensures ∙ delay-field (a .version) (a .k) h)
 
 returns-2 : tie.Need-returns-2
 returns-2 c =
     let a = c .before .before .args in
     let e = c .before .match .keys2 in
-    rw e (c .shape-at2 .ensures ∙ version-field (a .version) (a .k) (among (a .version) (a .section) 6 1 (a .k) e (version-count _) (c .before .before .pre)))
+    let h = among (a .version) (a .section) 6 1 (a .k) e (version-count _) (c .before .before .pre) in
+    rw e (c .shape-at2 .ensures ∙ version-field (a .version) (a .k) h)
 
 returns-3 : tie.Need-returns-3
 returns-3 c =

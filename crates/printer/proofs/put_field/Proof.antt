@@ -13,7 +13,8 @@ returns c = rw (eq-eqb (c .before .before .args .s .width) 0 (c .if1 .taken)) (p
 
 returns-2 : tie.Need-returns-2
 returns-2 c =
-    rw (ne-eqb (c .before .before .before .before .before .before .args .s .width) 0 (c .before .before .before .before .if1 .left)) (c .before .before .put-words .ensures)
+    let width = c .before .before .before .before .before .before .args .s .width in
+    rw (ne-eqb width 0 (c .before .before .before .before .if1 .left)) (c .before .before .put-words .ensures)
 
 pub put-field-spec : {M : Type 1} → statement M
 put-field-spec =

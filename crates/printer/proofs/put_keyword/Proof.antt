@@ -16,7 +16,9 @@ returns c = rw (List·getD-eq-default keywords [] {n = c .before .before .args .
 
 returns-8 : tie.Need-returns-8
 unfolding keywords
-returns-8 c = let e : c .before .before .before .before .before .before .before .before .args .section ≡ 6 = omega arith in rw e (c .before .before .put-bytes7 .ensures)
+returns-8 c =
+    let e : c .before .before .before .before .before .before .before .before .args .section ≡ 6 = omega arith in
+    rw e (c .before .before .put-bytes7 .ensures)
 
 pub put-keyword-spec : {M : Type 1} → statement M
 unfolding keywords

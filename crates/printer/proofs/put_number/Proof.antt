@@ -8,7 +8,8 @@ use Rattle.printer.proofs.put_number.Tie as tie
 
 returns : tie.Need-returns
 returns c =
-    puts-more _ _ (32 ∷ []) _ _ _ _ _ (c .before .before .before .before .before .before .put-byte .ensures) (c .before .before .put-number .ensures)
+    let space = c .before .before .before .before .before .before .put-byte .ensures in
+    puts-more _ _ (32 ∷ []) _ _ _ _ _ space (c .before .before .put-number .ensures)
 
 pub put-number-spec : {M : Type 1} → statement M
 put-number-spec =

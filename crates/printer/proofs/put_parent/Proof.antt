@@ -17,8 +17,9 @@ returns c = rw (c .before .before .before .before .before .if1 .taken) (c .befor
 returns-2 : tie.Need-returns-2
 unfolding afterWord
 returns-2 c =
+    let after = c .before .before .before .before .before .before .put-bytes2 .ensures in
     rw (parent-after (c .before .before .before .before .before .before .before .before .before .before .before .args .n) (omega arith))
-    (puts-more _ _ (32 ∷ afterWord) _ _ _ _ _ (c .before .before .before .before .before .before .put-bytes2 .ensures) (c .before .before .put-number .ensures))
+    (puts-more _ _ (32 ∷ afterWord) _ _ _ _ _ after (c .before .before .put-number .ensures))
 
 pub put-parent-spec : {M : Type 1} → statement M
 put-parent-spec =

@@ -12,7 +12,8 @@ returns : tie.Need-returns
 unfolding lineOf lineWords
 returns c =
     let keyword = c .before .before .before .before .before .before .before .before .before .before .put-keyword .ensures in
-    puts-more _ _ _ _ _ (10 ∷ []) _ _ (puts-more _ _ _ _ _ _ _ _ keyword (c .before .before .before .before .before .before .put-fields .ensures)) (c .before .before .put-byte .ensures)
+    let fields = c .before .before .before .before .before .before .put-fields .ensures in
+    puts-more _ _ _ _ _ (10 ∷ []) _ _ (puts-more _ _ _ _ _ _ _ _ keyword fields) (c .before .before .put-byte .ensures)
 
 pub put-record-spec : {M : Type 1} → statement M
 put-record-spec =

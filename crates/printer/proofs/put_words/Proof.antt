@@ -21,13 +21,15 @@ others =
 returns : tie.Need-returns
 returns c =
     let n = c .before .before .before .before .before .before .before .args .n in
-    rw (c .before .before .before .before .enum-told .given .1, choice-words name.Kind n kind-form, line-from-one (getD (choices name.Kind) n (decimal n)))
+    let word = getD (choices name.Kind) n (decimal n) in
+    rw (c .before .before .before .before .enum-told .given .1, choice-words name.Kind n kind-form, line-from-one word)
     (c .before .before .put-kind .ensures)
 
 returns-2 : tie.Need-returns-2
 returns-2 c =
     let n = c .before .before .before .before .before .before .before .args .n in
-    rw (c .before .before .before .before .enum-told2 .given .1, parent-words name.Parent n parent-form) (c .before .before .put-parent .ensures)
+    rw (c .before .before .before .before .enum-told2 .given .1, parent-words name.Parent n parent-form)
+    (c .before .before .put-parent .ensures)
 
 returns-3 : tie.Need-returns-3
 returns-3 c =

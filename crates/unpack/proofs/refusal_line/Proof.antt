@@ -8,7 +8,8 @@ use Rattle.unpack.proofs.refusal_line.Statement.{statement}
 use Rattle.unpack.proofs.refusal_line.Tie as tie
 
 returns : tie.Need-returns
-returns c = stands _ _ _ _ (c .before .before .pre) (omega (arith, refusal-fits (c .before .before .args .answer))) (c .put-refusal .ensures)
+returns c =
+    stands _ _ _ _ (c .before .before .pre) (omega (arith, refusal-fits (c .before .before .args .answer))) (c .put-refusal .ensures)
 
 pub refusal-line-spec : {M : Type 1} → statement M
 refusal-line-spec =
