@@ -3,7 +3,7 @@
 use crate::make::random::Rng;
 use crate::paper::bits::Bits;
 use crate::paper::frame;
-use crate::paper::table::{Lists, WIDTHS, numbers_of};
+use crate::paper::table::{Lists, WIDTHS, numbers_of, numbers_of_header};
 
 #[derive(Clone)]
 pub struct Raw {
@@ -45,10 +45,10 @@ impl Raw {
         bits.bytes()
     }
 
-    /// The numbers of the lists; paddings, version and header counts are left out.
+    /// The numbers of the lists; paddings and header counts are left out.
     pub fn lists(&self) -> Lists {
         let mut lists: Lists = Default::default();
-        lists[0] = self.header[6..10].to_vec();
+        lists[0] = numbers_of_header(&self.header);
         for (section, records) in self.sections.iter().enumerate() {
             for record in records {
                 lists[section].extend(numbers_of(section, record).0);

@@ -71,10 +71,10 @@ pub fn network(lists: &Lists) -> Network {
         parent: (n[2] as usize).checked_sub(1),
     };
     Network {
-        send_least: lists[0][0],
-        send_greatest: lists[0][1],
-        receive_least: lists[0][2],
-        receive_greatest: lists[0][3],
+        send_least: lists[0][1],
+        send_greatest: lists[0][2],
+        receive_least: lists[0][3],
+        receive_greatest: lists[0][4],
         systems: lists[1].iter().map(|&s| frame::ticks_per_byte(s)).collect(),
         vls: lists[2].chunks(4).map(vl).collect(),
         streams: lists[3].chunks(7).map(stream).collect(),

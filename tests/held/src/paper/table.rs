@@ -17,12 +17,13 @@ pub fn answer(number: u64, section: usize, row: usize) -> Answer {
     Answer { number, section: section as u64, row: row as u64 }
 }
 
-/// Six lists of numbers: delays, end systems, VLs, streams, ports, hops. A list has the index of
-/// its section; the header's list holds the four delays.
+/// Six lists of numbers: header, end systems, VLs, streams, ports, hops. A list has the index of
+/// its section; the header's list holds the version and the four delays, its counts are those of
+/// the other lists.
 pub type Lists = [Vec<u64>; 6];
 
 /// Numbers of one record in the lists.
-pub const NUMBERS: [usize; 6] = [4, 1, 4, 7, 3, 3];
+pub const NUMBERS: [usize; 6] = [5, 1, 4, 7, 3, 3];
 
 /// Bytes of one record in the table.
 pub const BYTES: [usize; 6] = [14, 1, 3, 13, 4, 4];
@@ -99,9 +100,20 @@ fn record_is_good(section: usize, n: &[u64]) -> bool {
     }
 }
 
-/// 01: "send and receive delays at most 1,875; ... each least at most its greatest."
-fn delays_are_good(d: &[u64]) -> bool {
-    d[0] <= d[1] && d[1] <= 1_875 && d[2] <= d[3] && d[3] <= 1_875
+/// 01: "version 8 (=1)", the counts, "send and receive delays at most 1,875", padding 0, "each least
+/// at most its greatest". A header's eleven fields; a field may be wider than the table has it.
+fn header_is_good(h: &[u64]) -> bool {
+    h[0] == 1
+        && (1..6).all(|section| h[section] <= MOST[section] as u64)
+        && h[6..10].iter().all(|&delay| delay <= 1_875)
+        && h[10] == 0
+        && h[6] <= h[7]
+        && h[8] <= h[9]
+}
+
+/// The numbers of the header's list.
+pub fn numbers_of_header(h: &[u64]) -> Vec<u64> {
+    vec![h[0], h[6], h[7], h[8], h[9]]
 }
 
 /// The bytes of a table with these counts (the header's own count is 1).
@@ -118,13 +130,12 @@ pub fn read(bytes: &[u8]) -> Result<Lists, Answer> {
     }
     // 2: "header version, count, delay or padding out of range"
     let header = Cursor::at_byte(bytes, 0).read_all(WIDTHS[0]);
+    if !header_is_good(&header) {
+        return Err(answer(2, 0, 0));
+    }
     let mut counts = [1usize; 6];
     for section in 1..6 {
         counts[section] = header[section] as usize;
-    }
-    let counts_are_good = (1..6).all(|section| counts[section] <= MOST[section]);
-    if header[0] != 1 || !counts_are_good || !delays_are_good(&header[6..10]) || header[10] != 0 {
-        return Err(answer(2, 0, 0));
     }
     // 3: "length is not what the counts require"
     if bytes.len() != table_bytes(&counts) {
@@ -132,7 +143,7 @@ pub fn read(bytes: &[u8]) -> Result<Lists, Answer> {
     }
     // 4: "a record's field or padding out of range"
     let mut lists: Lists = Default::default();
-    lists[0] = header[6..10].to_vec();
+    lists[0] = numbers_of_header(&header);
     let mut place = BYTES[0];
     for section in 1..6 {
         for row in 0..counts[section] {
@@ -170,7 +181,8 @@ pub fn unpack(bytes: &[u8], lent: &mut [Vec<u64>; 6]) -> (Answer, [usize; 6]) {
 }
 
 /// 01: "The writer takes its counts from its lists and gives 2 (also for a list that is no whole
-/// number of records), 4 (also for a value wider than its field), 11." The answer and the length.
+/// number of records), 4 (also for a value wider than its field), 11." The version comes from its
+/// list as well. The answer and the length.
 pub fn write(lists: &Lists, lent: &mut [u8]) -> (Answer, usize) {
     lent.fill(0);
     let bytes = match written(lists) {
@@ -186,14 +198,18 @@ pub fn write(lists: &Lists, lent: &mut [u8]) -> (Answer, usize) {
 
 /// Answers 2 and 4 of the writer, or the bytes.
 pub fn written(lists: &Lists) -> Result<Vec<u8>, Answer> {
-    if lists[0].len() != 4 || !delays_are_good(&lists[0]) {
+    let whole = (1..6).all(|section| lists[section].len() % NUMBERS[section] == 0);
+    if lists[0].len() != NUMBERS[0] || !whole {
         return Err(answer(2, 0, 0));
     }
+    let mut header = vec![lists[0][0]];
     for section in 1..6 {
-        let whole = lists[section].len() % NUMBERS[section] == 0;
-        if !whole || lists[section].len() / NUMBERS[section] > MOST[section] {
-            return Err(answer(2, 0, 0));
-        }
+        header.push((lists[section].len() / NUMBERS[section]) as u64);
+    }
+    header.extend(&lists[0][1..]);
+    header.push(0);
+    if !header_is_good(&header) {
+        return Err(answer(2, 0, 0));
     }
     for section in 1..6 {
         for (row, record) in lists[section].chunks(NUMBERS[section]).enumerate() {
@@ -202,12 +218,6 @@ pub fn written(lists: &Lists) -> Result<Vec<u8>, Answer> {
             }
         }
     }
-    let mut header = vec![1];
-    for section in 1..6 {
-        header.push((lists[section].len() / NUMBERS[section]) as u64);
-    }
-    header.extend(&lists[0]);
-    header.push(0);
     let mut bits = Bits::default();
     bits.push_all(&header, WIDTHS[0]);
     for section in 1..6 {

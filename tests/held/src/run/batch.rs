@@ -172,11 +172,12 @@ fn write(rng: &mut Rng, number: u64, bends: &[writes::Bend]) -> Item {
     if number % 3 < 2 {
         lists = writes::small(rng);
         let place = (number / 3 * 2 + number % 3) as usize;
-        writes::bend(rng, &mut lists, bends[place % bends.len()]);
+        // At times a second bend; it comes first, so that it never stands over the other.
         if place >= bends.len() || rng.chance(5) {
             let other = bends[rng.index(bends.len())];
             writes::bend(rng, &mut lists, other);
         }
+        writes::bend(rng, &mut lists, bends[place % bends.len()]);
     } else if number % 60 == 2 {
         // The first lot just fits, the next falls short by a byte, and so on.
         let lot = number / 60;

@@ -72,13 +72,15 @@ parts! {
         unpacked_and_written_is_the_same_table, short_list_is_11_and_all_zero,
         refused_table_leaves_lists_zero, short_room_is_11_and_all_zero,
         bent_number_is_refused_where_it_stands, what_the_writer_takes_reads_back,
-        misshapen_lists_are_2;
+        misshapen_lists_are_2, header_list_begins_with_the_version,
+        header_list_has_five_numbers, wrong_version_is_2;
     cases: too_few_bytes_are_1, made_for_2, made_for_3, made_for_4, made_for_5, made_for_6,
         made_for_7, made_for_8, made_for_9, made_for_10, made_to_be_accepted, greatest_counts,
         two_cases_at_once, heavy_tables_pass_1_to_8, damaged_tables_end;
     streams: stream_reads_back, answers_leave_no_lent_place, cut_stream_is_seen,
         gate_stream_has_every_answer, gate_stream_has_every_case, gate_stream_has_every_size,
-        gate_stream_has_every_short_list;
+        gate_stream_has_every_short_list, gate_stream_has_every_bend,
+        gate_stream_has_wrong_versions;
     machines: least_run_takes_its_best_figure, second_packet_waits_one_gap,
         sub_links_take_turns, same_tick_order_is_kept, events_and_ticks_agree,
         unlawful_plans_are_seen, runs_keep_to_their_rows, wrong_rows_are_seen;

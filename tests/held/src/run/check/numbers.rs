@@ -63,7 +63,7 @@ pub fn case_4_both_end_ticks(report: &mut Report) {
 fn five(jitter: u64) -> ([Flow; 2], Lists) {
     let streams = [0, 0, 0, 17, 17, 25_000, jitter, 0, 0, 0, 34, 17, 50_000, 0];
     let six: [&[u64]; 6] =
-        [&[9, 9, 0, 0], &[100], &[0, 1, 1, 64], &streams, &[100, 0, 0], &[0, 0, 0]];
+        [&[1, 9, 9, 0, 0], &[100], &[0, 1, 1, 64], &streams, &[100, 0, 0], &[0, 0, 0]];
     ([flow(25_000, jitter, BAG), flow(50_000, 0, 2 * BAG)], whole_case::set_down(six))
 }
 
@@ -103,7 +103,7 @@ pub fn case_9_end_system(report: &mut Report) {
     let nine = |last: u64| {
         let vls = [0, 128, 1, 1_518, 0, 128, 1, 1_518, 0, 128, 1, 1_518, 0, 128, 1, last];
         let hops = [0, 0, 0, 1, 0, 0, 2, 0, 0, 3, 0, 0];
-        whole_case::set_down([&[0, 0, 0, 0], &[100], &vls, &[], &[100, 0, 0], &hops])
+        whole_case::set_down([&[1, 0, 0, 0, 0], &[100], &vls, &[], &[100, 0, 0], &hops])
     };
     report.same("5,750", answer_number(&nine(1_116)), (0, 0, 0));
     report.same("5,751", answer_number(&nine(1_117)), (7, 1, 0));
@@ -112,7 +112,7 @@ pub fn case_9_end_system(report: &mut Report) {
 /// "13 bytes: 1. VL record of end system 0, BAG 2 ms, one sub-link, Lmax 516: bytes 00 22 04"
 pub fn case_10_bytes(report: &mut Report) {
     report.same("13 bytes", table::read(&[1; 13]).err(), Some(answer(1, 0, 0)));
-    let ten = whole_case::set_down([&[0, 0, 0, 0], &[], &[0, 2, 1, 516], &[], &[], &[]]);
+    let ten = whole_case::set_down([&[1, 0, 0, 0, 0], &[], &[0, 2, 1, 516], &[], &[], &[]]);
     let bytes = table::written(&ten).expect("records in range");
     report.same("VL record", &bytes[14..], &[0, 0x22, 4]);
 }

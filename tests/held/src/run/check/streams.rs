@@ -1,8 +1,8 @@
 // The item stream: its binary form read back, its answers, and what the gate's stream holds.
 // The gate's stream is that of seed 1 with 1,500 items.
 use super::Report;
-use crate::make::mixture;
-use crate::paper::table::{self, BYTES};
+use crate::make::{mixture, writes};
+use crate::paper::table::{self, BYTES, Lists, NUMBERS};
 use crate::run::batch;
 use crate::run::items::{self, Item};
 
@@ -112,4 +112,39 @@ pub fn gate_stream_has_every_short_list(report: &mut Report) {
         }
     }
     report.same("lists", seen, [true; 6]);
+}
+
+/// Each bend of the writer's lists stands in one of its items, wrong versions among them.
+pub fn gate_stream_has_every_bend(report: &mut Report) {
+    let mut written = Vec::new();
+    for item in gate_stream() {
+        if let Item::Write { lists, .. } = item {
+            written.push(lists);
+        }
+    }
+    for (section, place, value) in writes::bends() {
+        let is_there = |lists: &Lists| {
+            let mut records = lists[section].chunks(NUMBERS[section]);
+            records.any(|record| record.get(place) == Some(&value))
+        };
+        let what = format!("section {section}, place {place}, {value}");
+        report.holds(&what, written.iter().any(is_there));
+    }
+}
+
+/// A version that is not 1 is refused by the writer, also one that is wider than its field.
+pub fn gate_stream_has_wrong_versions(report: &mut Report) {
+    let mut seen = Vec::new();
+    for item in gate_stream() {
+        let answer = items::answered(&item).0.number;
+        if let Item::Write { lists, .. } = item {
+            if lists[0].len() == 5 {
+                seen.push((lists[0][0], answer));
+            }
+        }
+    }
+    for version in [0, 2, 255, 256, 257] {
+        report.holds("refused", seen.contains(&(version, 2)));
+    }
+    report.holds("version 1 is taken", seen.contains(&(1, 0)));
 }

@@ -2,7 +2,7 @@
 // Order, demand 2: "an accepted table, unpacked and written again, gives the same bytes."
 use super::Report;
 use crate::make::random::Rng;
-use crate::make::{damage, mixture, sizes, writes};
+use crate::make::{damage, mixture, sizes, whole_case, writes};
 use crate::paper::bits::{Bits, Cursor};
 use crate::paper::frame;
 use crate::paper::table::{self, ACCEPTED, BYTES, Lists, MOST, NUMBERS, WIDTHS, answer};
@@ -181,5 +181,46 @@ pub fn misshapen_lists_are_2(report: &mut Report) {
         let few = (1..6).all(|k| lists[k].len() <= MOST[k] * NUMBERS[k]);
         let misshapen = !whole || !few || lists[0].len() != NUMBERS[0];
         report.same("refused", table::written(&lists) == Err(answer(2, 0, 0)), misshapen);
+    }
+}
+
+/// The version, then the four delays: as the unpacker fills the list and the writer takes it.
+pub fn header_list_begins_with_the_version(report: &mut Report) {
+    let lists = whole_case::lists();
+    let bytes = table::written(&lists).expect("01's own table");
+    let mut lent = lent(&lists, 1);
+    report.same("unpacked", table::unpack(&bytes, &mut lent).0, ACCEPTED);
+    report.same("header", &lent[0], &vec![1, 500, 1_000, 500, 500, 0]);
+    report.same("first byte", bytes[0], 1);
+}
+
+/// 2 of the writer for any other length; 11 of the unpacker for a lent list that is shorter.
+pub fn header_list_has_five_numbers(report: &mut Report) {
+    let good = whole_case::lists();
+    let bytes = table::written(&good).expect("01's own table");
+    for length in 0..9 {
+        let mut lists = good.clone();
+        lists[0].resize(length, 0);
+        let wanted = if length == 5 { Ok(bytes.clone()) } else { Err(answer(2, 0, 0)) };
+        report.same("written", table::written(&lists), wanted);
+        let mut lent = lent(&good, 1);
+        lent[0] = vec![7; length];
+        let wanted = if length >= 5 { ACCEPTED } else { answer(11, 0, 0) };
+        report.same("unpacked", table::unpack(&bytes, &mut lent).0, wanted);
+        report.holds("all zero on 11", length >= 5 || all_zero(&lent));
+    }
+}
+
+/// Also one whose last eight bits are 1, and before the records are looked at or the room.
+pub fn wrong_version_is_2(report: &mut Report) {
+    for version in [0, 2, 3, 129, 255, 256, 257, (1 << 32) + 1, u64::MAX] {
+        let mut lists = whole_case::lists();
+        lists[0][0] = version;
+        report.same("refused", table::written(&lists), Err(answer(2, 0, 0)));
+        lists[2][1] = 3;
+        report.same("2 goes before 4", table::written(&lists), Err(answer(2, 0, 0)));
+        let mut room = [7; 3];
+        report.same("2 goes before 11", table::write(&lists, &mut room), (answer(2, 0, 0), 0));
+        report.same("all zero", room, [0; 3]);
     }
 }
