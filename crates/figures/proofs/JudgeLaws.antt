@@ -12,7 +12,8 @@ use lib.ListN.{length, replicate}
 use Rattle.base.specs.Least.{leastFrom}
 use Rattle.base.specs.Tests.{isSome}
 use Rattle.base.proofs.LeastLaws.{least-is, least-none}
-use Rattle.layout.proofs.SizeLaws.{most-are, places-are}
+use Rattle.layout.specs.Sizes.{place}
+use Rattle.layout.proofs.SizeLaws.{most-are}
 use Rattle.network.specs.Network.{Network}
 use Rattle.table.specs.declared.Answer.{Answer}
 use Rattle.table.specs.Answers.{answer, accepted, firstGiven}

@@ -61,6 +61,11 @@ padding-was : (n v : ℕ) → meaning Padding n ≡ some v → (n ≡ 0) × (v �
 unfolding meaning
 padding-was n v e = let given = pick-gave (eqb n 0) 0 v e in (eqb-true n 0 (given .0), sym (given .1))
 
+pub padding-converted : (way : Way) (s : Shape) (n v : ℕ) → s .kind ≡ Padding → convert way s n ≡ some v → (n ≡ 0) × (v ≡ 0)
+unfolding convert
+padding-converted Reading s n v is e = padding-was n v (rw is at e)
+padding-converted Writing s n v is e = padding-was n v (sym (padding-stored (s .width) n) ∙ rw is at e)
+
 pub reference-is : (width v : ℕ) → pick (within 0 (2 ^ width - 1) v) (some v) none ≡ storedAs Reference width v
 unfolding storedAs
 reference-is width v = go (decLe (2 ^ width) v)

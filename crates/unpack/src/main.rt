@@ -23,9 +23,6 @@ const LINE: usize = 197;
 // The line of the version, which stands behind those of the sections; that of the delays is section 0's.
 const VERSION_LINE: usize = 6;
 
-// Every table is of version 1.
-const VERSION: u64 = 1;
-
 // The line of a refusal.
 fn refusal_line(answer: Answer, out: &mut [u8; LINE]) -> usize
     requires { ⌜ length (now out) ≡ 197 ⌝ }
@@ -102,17 +99,17 @@ fn write_section(version: u64, section: usize, list: &[u64], n: usize) -> bool {
 }
 
 // Writes the lines of the version and of the delays.
-fn write_head(version: u64, delays: &[u64]) -> bool {
+fn write_head(version: u64, header: &[u64]) -> bool {
     let first = [version];
     if !write_numbers(version, VERSION_LINE, &first) {
         return false;
     }
-    write_numbers(version, 0, delays)
+    write_numbers(version, 0, header)
 }
 
 // Unpacks a table and writes it as text; whether it went out whole.
 fn written(table: &[u8]) -> bool {
-    let mut delays = [0u64; sizes::DELAYS];
+    let mut header = [0u64; sizes::HEADER_LIST];
     let mut systems = [0u64; sizes::SYSTEMS];
     let mut vls = [0u64; sizes::VLS];
     let mut streams = [0u64; sizes::STREAMS];
@@ -120,7 +117,7 @@ fn written(table: &[u8]) -> bool {
     let mut hops = [0u64; sizes::HOPS];
     let u = unpacker::unpack(
         table,
-        &mut delays,
+        &mut header,
         &mut systems,
         &mut vls,
         &mut streams,
@@ -132,22 +129,23 @@ fn written(table: &[u8]) -> bool {
     if number != 0 {
         return write_refusal(answer);
     }
-    if !write_head(VERSION, &delays) {
+    let version = header[0];
+    if !write_head(version, &header[1..]) {
         return false;
     }
-    if !write_section(VERSION, 1, &systems, u.systems) {
+    if !write_section(version, 1, &systems, u.systems) {
         return false;
     }
-    if !write_section(VERSION, 2, &vls, u.vls) {
+    if !write_section(version, 2, &vls, u.vls) {
         return false;
     }
-    if !write_section(VERSION, 3, &streams, u.streams) {
+    if !write_section(version, 3, &streams, u.streams) {
         return false;
     }
-    if !write_section(VERSION, 4, &ports, u.ports) {
+    if !write_section(version, 4, &ports, u.ports) {
         return false;
     }
-    write_section(VERSION, 5, &hops, u.hops)
+    write_section(version, 5, &hops, u.hops)
 }
 
 fn main() {
