@@ -2,3 +2,4 @@ pub mod Notation
 pub mod Meant
 pub mod Printed
 pub mod Back
+pub mod Steps

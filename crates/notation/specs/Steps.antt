@@ -1,0 +1,24 @@
+-- What words say of a line, in the steps in which a line is read from the front: how many fields it has, one field by its shape, a parent by
+-- its first word. No demand is stated by these; that they are parts of what a line says, proofs/MeantLaws has. Assumes nothing.
+use Prim.Native.Nat.{ℕ}
+use mathlib.Core.List.{List}
+use mathlib.Core.Option.{Option, none, some}
+use lib.Dec.{eqb}
+use Rattle.base.specs.Pick.{pick}
+use Rattle.layout.specs.Rows.{listed}
+use Rattle.layout.specs.declared.Shape.{Shape}
+use Rattle.words.specs.Words.{same}
+use Rattle.notation.specs.Notation.{Word, versionLine, noneWord, afterWord}
+use Rattle.notation.specs.Meant.{Taken, taken, rowFrom, fieldFrom}
+
+-- how many fields a line of a section has: four delays, one version, and all that a record has in the lists
+unfoldable pub fieldsOf : ℕ → ℕ
+fieldsOf s = pick (eqb s 0) 4 (pick (eqb s versionLine) 1 (listed s))
+
+-- a parent by its first word and the words behind that
+unfoldable pub parentFrom : Word → List Word → Option Taken
+parentFrom w ws = pick (same w noneWord) (taken (some 0) ws) (pick (same w afterWord) (rowFrom ws) none)
+
+-- a field of 0 bits is 0 and has no word
+unfoldable pub shapeFrom : Shape → List Word → Option Taken
+shapeFrom s ws = pick (eqb (s .width) 0) (taken (some 0) ws) (fieldFrom (s .name) ws)

@@ -1,0 +1,73 @@
+-- What the answers of the routines that read a line say, in the terms of crate `notation`, and by which place they say it.
+-- Assumes nothing.
+use Prim.Native.Nat.{ℕ, zero, suc, _-_, _≤_}
+use mathlib.Core.Path.{_≡_}
+use mathlib.Core.List.{List, [], _∷_}
+use mathlib.Core.Option.{Option, none, some}
+use lib.ListN.{length, take}
+use Rattle.words.specs.Words.{wordsOf}
+use Rattle.words.specs.Places.{part, wordAt}
+use Rattle.notation.specs.Notation.{Word}
+use Rattle.notation.specs.Meant as meant
+use Rattle.notation.specs.Meant.{taken, numbers, wrong, silent, unknown, of}
+use Rattle.parser.specs.declared.Taken.{Taken}
+use Rattle.parser.specs.declared.Taken.the-variants.{Said, NotSaid}
+use Rattle.parser.specs.declared.Sort.{Sort}
+use Rattle.parser.specs.declared.Sort.the-variants.{Silent, Unknown, Good, Wrong}
+use Rattle.parser.specs.declared.Line.{Line}
+
+-- ---- places
+-- how many words a text has from a place on, before another
+unfoldable pub wordsFrom : List ℕ → ℕ → ℕ → ℕ
+wordsFrom text at end = length (wordsOf (part text at end))
+
+-- the place behind the first so many of them
+unfoldable pub placeBehind : List ℕ → ℕ → ℕ → ℕ → ℕ
+placeBehind text at end zero = at
+placeBehind text at end (suc j) = placeBehind text (wordAt text at end .to) end j
+
+-- a place is behind those words that there are no more from it on
+pub record Behind (text : List ℕ) (at end next : ℕ) : Type 0 where
+  pub fewer : wordsFrom text next end ≤ wordsFrom text at end
+  pub place : next ≡ placeBehind text at end (wordsFrom text at end - wordsFrom text next end)
+
+-- ---- a field
+-- what the answer says of a field
+unfoldable pub takenIn : List ℕ → ℕ → Taken → Option meant.Taken
+takenIn text end (Said v next) = taken (some v) (wordsOf (part text next end))
+takenIn text end NotSaid = none
+
+unfoldable pub BehindTaken : List ℕ → ℕ → ℕ → Taken → Type 0
+BehindTaken text at end (Said v next) = Behind text at end next
+BehindTaken text at end NotSaid = Unit
+
+-- the answer says this of a field, and the place behind
+pub record Takes (text : List ℕ) (at end : ℕ) (says : Option meant.Taken) (r : Taken) : Type 0 where
+  pub said : takenIn text end r ≡ says
+  pub behind : BehindTaken text at end r
+
+-- the answer, by the number that a word stands for and the place behind the word
+unfoldable pub takenAt : Option ℕ → ℕ → Taken
+takenAt none next = NotSaid
+takenAt (some n) next = Said n next
+
+-- ---- a line
+-- of which sort a line is that has said its fields, by the words behind
+unfoldable pub sortBehind : List Word → Sort
+sortBehind [] = Good
+sortBehind (w ∷ ws) = Wrong
+
+-- what the answer says of a line
+unfoldable pub lineTold : List ℕ → ℕ → Line → meant.Line
+lineTold text end r = elim (r .sort) [
+  | Silent ↦ silent
+  | Unknown ↦ unknown
+  | Good ↦ of (r .section) (numbers (take (r .count) (r .numbers)))
+  | Wrong ↦ of (r .section) (wrong (r .count) (wordsOf (part text (r .place) end)))
+]
+
+-- the answer says this of a line, and the place behind the words that say fields
+pub record Tells (text : List ℕ) (at end : ℕ) (says : meant.Line) (r : Line) : Type 0 where
+  pub said : lineTold text end r ≡ says
+  pub behind : Behind text at end (r .place)
+  pub few : r .count ≤ 11
