@@ -5,3 +5,5 @@ pub mod PrintedLaws
 pub mod AcceptedLaws
 pub mod MeantLaws
 pub mod ShapeLaws
+pub mod FittedLaws
+pub mod LinesLaws

@@ -69,7 +69,7 @@ unfolding withNumbers withNumber
 with-none [] = refl
 with-none (n ∷ ns) = ap (withNumber n) (with-none ns)
 
-fields-by : (s : Shape) (ss : List Shape) (ws : List Word)
+pub fields-by : (s : Shape) (ss : List Shape) (ws : List Word)
     → fieldsFrom (s ∷ ss) ws ≡ elim (shapeFrom s ws) [ none ↦ wrong 0 ws | some t ↦ withNumber (t .value) (fieldsFrom ss (t .rest)) ]
 unfolding fieldsFrom shapeFrom taken
 fields-by s ss ws = go (eqb (s .width) 0)

@@ -3,3 +3,4 @@ pub mod Meant
 pub mod Printed
 pub mod Back
 pub mod Steps
+pub mod Fitted

@@ -1,13 +1,14 @@
--- What words say of a line, in the steps in which a line is read from the front: how many fields it has, one field by its shape, a parent by
--- its first word. No demand is stated by these; that they are parts of what a line says, proofs/MeantLaws has. Assumes nothing.
+-- What a text says, in the steps in which it is read from the front: its lines from a place on, how many fields a line has, one field by its
+-- shape, a parent by its first word. No demand is stated by these; that they are parts of what is said, proofs/ has. Assumes nothing.
 use Prim.Native.Nat.{ℕ}
-use mathlib.Core.List.{List}
+use mathlib.Core.List.{List, [], map}
 use mathlib.Core.Option.{Option, none, some}
-use lib.Dec.{eqb}
+use lib.Dec.{leb, eqb}
+use lib.ListN.{length, drop}
 use Rattle.base.specs.Pick.{pick}
 use Rattle.layout.specs.Rows.{listed}
 use Rattle.layout.specs.declared.Shape.{Shape}
-use Rattle.words.specs.Words.{same}
+use Rattle.words.specs.Words.{linesOf, wordsOf, same}
 use Rattle.notation.specs.Notation.{Word, versionLine, noneWord, afterWord}
 use Rattle.notation.specs.Meant.{Taken, taken, rowFrom, fieldFrom}
 
@@ -22,3 +23,7 @@ parentFrom w ws = pick (same w noneWord) (taken (some 0) ws) (pick (same w after
 -- a field of 0 bits is 0 and has no word
 unfoldable pub shapeFrom : Shape → List Word → Option Taken
 shapeFrom s ws = pick (eqb (s .width) 0) (taken (some 0) ws) (fieldFrom (s .name) ws)
+
+-- the lines of a text from a place on where one begins, each by its words; there is none past the text's end
+unfoldable pub linesFrom : List ℕ → ℕ → List (List Word)
+linesFrom text at = pick (leb at (length text)) (map wordsOf (linesOf (drop at text))) []

@@ -71,6 +71,7 @@ module _ (text : List ℕ) (at end : ℕ) (ss : List Shape) where
           said = ap (of section) (sym (wrong-at ws g) ∙ ap (withNumbers (take k ns)) (sym none-said) ∙ r .left);
           behind = r .behind;
           few = omega arith;
+          long = r .long;
         }
 
     pub reading-end : (section n : ℕ) (sort : Sort) → n ≡ k → length ss ≤ k → k ≤ 11 → sort ≡ sortBehind (wordsOf (part text place end))
@@ -85,6 +86,7 @@ module _ (text : List ℕ) (at end : ℕ) (ss : List Shape) where
               ∙ go (wordsOf (part text place end)) refl;
           behind = r .behind;
           few = omega arith;
+          long = r .long;
         }
       where
         go : (ws : List Word) → wordsOf (part text place end) ≡ ws

@@ -125,8 +125,9 @@ module _ (text : List ℕ) (at end : ℕ) (word : Span) (is : word ≡ wordAt te
 -- ---- a line
 module _ (text : List ℕ) (at end : ℕ) where
   -- one that says no field
-  pub tells-bare : (r : Line) (says : meant.Line) → lineTold text end r ≡ says → r .count ≡ 0 → r .place ≡ at → Tells text at end says r
-  tells-bare r says e d p = record { said = e; behind = rw p (behind-here text at end); few = omega arith }
+  pub tells-bare : (r : Line) (says : meant.Line) → lineTold text end r ≡ says → r .count ≡ 0 → r .place ≡ at → length (r .numbers) ≡ 11
+      → Tells text at end says r
+  tells-bare r says e d p l = record { said = e; behind = rw p (behind-here text at end); few = omega arith; long = l }
 
   pub told-silent : (r : Line) → r .sort ≡ Silent → lineTold text end r ≡ silent
   unfolding lineTold
@@ -138,4 +139,4 @@ module _ (text : List ℕ) (at end : ℕ) where
 
   pub tells-later : (r : Line) (says said : meant.Line) (p : ℕ) → says ≡ said → Behind text at end p → Tells text p end said r → Tells text at end says r
   tells-later r says said p e b t =
-      record { said = t .said ∙ sym e; behind = behind-more text at end p (r .place) b (t .behind); few = t .few }
+      record { said = t .said ∙ sym e; behind = behind-more text at end p (r .place) b (t .behind); few = t .few; long = t .long }

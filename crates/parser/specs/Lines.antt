@@ -1,10 +1,13 @@
 -- What the answers of the routines that read a line say, in the terms of crate `notation`, and by which place they say it.
 -- Assumes nothing.
-use Prim.Native.Nat.{ℕ, zero, suc, _-_, _≤_}
+use Prim.Native.Nat.{ℕ, zero, suc, _+_, _-_, _≤_}
 use mathlib.Core.Path.{_≡_}
 use mathlib.Core.List.{List, [], _∷_}
 use mathlib.Core.Option.{Option, none, some}
+use lib.Dec.{leb, eqb}
 use lib.ListN.{length, take}
+use lib.Seq.{paste}
+use Rattle.base.specs.Pick.{pick}
 use Rattle.words.specs.Words.{wordsOf}
 use Rattle.words.specs.Places.{part, wordAt}
 use Rattle.notation.specs.Notation.{Word}
@@ -71,3 +74,20 @@ pub record Tells (text : List ℕ) (at end : ℕ) (says : meant.Line) (r : Line)
   pub said : lineTold text end r ≡ says
   pub behind : Behind text at end (r .place)
   pub few : r .count ≤ 11
+  pub long : length (r .numbers) ≡ 11
+
+-- how many of its numbers are those of a line of this section: all or none
+unfoldable pub countIn : ℕ → Line → ℕ
+countIn section r = elim (r .sort) [
+  | Silent ↦ 0
+  | Unknown ↦ 0
+  | Good ↦ pick (eqb (r .section) section) (r .count) 0
+  | Wrong ↦ 0
+]
+
+-- numbers put at a place of a list, where there is room for all of them: the list, and the place behind
+unfoldable pub listWith : List ℕ → ℕ → List ℕ → ℕ → List ℕ
+listWith list at ns count = pick (leb count (length list - at)) (paste list at ns count) list
+
+unfoldable pub placeWith : List ℕ → ℕ → ℕ → ℕ
+placeWith list at count = pick (leb count (length list - at)) (at + count) at

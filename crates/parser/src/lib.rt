@@ -7,16 +7,17 @@ use notation::Form;
 use words::Numeral;
 use words::Span;
 ghost use mathlib.Core.Path.{_≡_};
-ghost use Prim.Native.Nat.{suc, _-_, _^_, _<_, min};
-ghost use lib.ListN.{getD};
+ghost use Prim.Native.Nat.{suc, _-_, _^_, _≤_, _<_, min};
+ghost use lib.ListN.{length, getD, replicate};
 ghost use Rattle.layout.specs.Layout.{blank};
 ghost use Rattle.layout.specs.declared.Name.the-variants as name;
 ghost use Rattle.words.specs.Words.{wordsOf};
 ghost use Rattle.words.specs.Places.{part, told};
 ghost use Rattle.notation.specs.Notation.{keywords, wordIn, choices, formOf, lineFields};
-ghost use Rattle.notation.specs.Meant.{fieldFrom, fieldsFrom, lineSaid, of, rowFrom};
+ghost use Rattle.notation.specs.Meant.{fieldFrom, fieldsFrom, lineSaid, of, rowFrom, textLines, sectionIn, versionIn};
 ghost use Rattle.notation.specs.Steps.{fieldsOf, parentFrom, shapeFrom};
-ghost use Rattle.parser.specs.Lines.{takenAt, sortBehind, Takes, Tells};
+ghost use Rattle.notation.specs.Fitted.{held, fitted};
+ghost use Rattle.parser.specs.Lines.{takenAt, sortBehind, Takes, Tells, countIn, listWith, placeWith};
 
 // What words say of a field: its number and the place behind them, or they do not say it.
 enum Taken {
@@ -249,7 +250,7 @@ fn fields_at(text: &[u8], at: usize, end: usize, version: u64, section: usize) -
 }
 
 fn without_fields(sort: Sort, at: usize) -> Line
-    ensures { λ r. ⌜ (r .sort ≡ sort) × (r .count ≡ 0) × (r .place ≡ at) ⌝ }
+    ensures { λ r. ⌜ (r .sort ≡ sort) × (r .count ≡ 0) × (r .place ≡ at) × (length (r .numbers) ≡ 11) ⌝ }
 {
     Line {
         sort: sort,
@@ -273,4 +274,80 @@ fn line_of(text: &[u8], at: usize, end: usize, version: u64) -> Line
         Numeral::Number(section) => fields_at(text, next, end, version, section as usize),
         Numeral::NotANumber => without_fields(Sort::Unknown, at),
     }
+}
+
+// How many of its numbers are those of a line of this section.
+fn count_in(line: Line, section: usize) -> usize
+    ensures { λ r. ⌜ r ≡ countIn section line ⌝ }
+{
+    let sort = line.sort;
+    match sort {
+        Sort::Silent => 0,
+        Sort::Unknown => 0,
+        Sort::Good => {
+            if line.section == section {
+                return line.count;
+            }
+            0
+        }
+        Sort::Wrong => 0,
+    }
+}
+
+// Makes every number 0.
+fn clear(list: &mut [u64])
+    ensures { λ _. ⌜ now (list .exit) ≡ replicate (length (now (list .entry))) 0 ⌝ }
+{
+    let n = list.len();
+    let mut k = 0;
+    while k < n {
+        list[k] = 0;
+        k += 1;
+    }
+}
+
+// Puts the first of these numbers at a place of a list, where there is room for all of them, and answers the place behind.
+fn put_numbers(list: &mut [u64], at: usize, numbers: [u64; LONGEST], count: usize) -> usize
+    requires { ⌜ (at ≤ length (now list)) × (count ≤ 11) ⌝ }
+    ensures { λ r. ⌜ (r ≡ placeWith (now (list .entry)) at count) × (now (list .exit) ≡ listWith (now (list .entry)) at numbers count) ⌝ }
+{
+    if list.len() - at < count {
+        return at;
+    }
+    let mut k = 0;
+    while k < count {
+        list[at + k] = numbers[k];
+        k += 1;
+    }
+    at + count
+}
+
+// The numbers that the lines of a section say, as many whole records as the list has room for, and zeros behind; and how many they are.
+pub fn fill(text: &[u8], version: u64, section: usize, list: &mut [u64]) -> usize
+    ensures { λ r. ⌜ (r ≡ length (held (fieldsOf section) (length (now (list .entry))) (sectionIn version section (textLines (now (text .entry)))))) × (now (list .exit) ≡ fitted (fieldsOf section) (length (now (list .entry))) (sectionIn version section (textLines (now (text .entry))))) ⌝ }
+{
+    clear(list);
+    let n = text.len();
+    let mut at = 0;
+    let mut put = 0;
+    while at <= n {
+        let end = words::line_end(text, at);
+        let line = line_of(text, at, end, version);
+        let numbers = line.numbers;
+        put = put_numbers(list, put, numbers, count_in(line, section));
+        at = end + 1;
+    }
+    put
+}
+
+// The version that a text says, wherever its line stands; 1 where none does.
+pub fn version_of(text: &[u8]) -> u64
+    ensures { λ r. ⌜ r ≡ versionIn (textLines (now (text .entry))) ⌝ }
+{
+    let mut version = [0u64; 1];
+    let n = fill(text, 1, 6, &mut version);
+    if n == 0 {
+        return 1;
+    }
+    version[0]
 }

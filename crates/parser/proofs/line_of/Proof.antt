@@ -16,7 +16,7 @@ returns c =
     let none-are = none-left (a .text .now) (a .at) (a .end) _ (c .before .before .before .word-at .ensures) (omega arith) in
     tells-bare (a .text .now) (a .at) (a .end) (bare .result) _
     (told-silent (a .text .now) (a .at) (a .end) (bare .result) (bare .ensures .0) ∙ sym (ap (lineSaid (a .version)) none-are ∙ line-silent (a .version)))
-    (bare .ensures .1) (bare .ensures .2)
+    (bare .ensures .1) (bare .ensures .2) (bare .ensures .3)
 
 returns-2 : tie.Need-returns-2
 returns-2 c =
@@ -39,7 +39,7 @@ returns-3 c =
     tells-bare (a .text .now) (a .at) (a .end) (bare .result) _
     (told-unknown (a .text .now) (a .at) (a .end) (bare .result) (bare .ensures .0)
     ∙ sym (ap (lineSaid (a .version)) first ∙ line-unknown (a .version) _ _ none-is))
-    (bare .ensures .1) (bare .ensures .2)
+    (bare .ensures .1) (bare .ensures .2) (bare .ensures .3)
 
 pub line-of-spec : {M : Type 1} → statement M
 line-of-spec =
