@@ -2,3 +2,5 @@ pub mod LineLaws
 pub mod NameLaws
 pub mod FieldsLaws
 pub mod FillLaws
+pub mod Unique
+pub mod MistakeLaws

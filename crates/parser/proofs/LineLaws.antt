@@ -5,7 +5,7 @@ use mathlib.Core.Path.{_≡_, refl, sym, ap, _∙_}
 use mathlib.Core.List.{List, [], _∷_}
 use mathlib.Core.Option.{Option, none, some}
 use native.Mathlib.Omega.{arith}
-use lib.ListN.{length}
+use lib.ListN.{length, take}
 use Rattle.words.specs.declared.Span.{Span}
 use Rattle.words.specs.declared.Numeral.{Numeral}
 use Rattle.words.specs.declared.Numeral.the-variants.{Number, NotANumber}
@@ -16,12 +16,12 @@ use Rattle.layout.specs.declared.Name.{Name}
 use Rattle.notation.specs.declared.Form.the-variants.{Parent}
 use Rattle.notation.specs.Notation.{formOf}
 use Rattle.notation.specs.Meant as meant
-use Rattle.notation.specs.Meant.{taken, rowFrom, fieldFrom, silent, unknown}
+use Rattle.notation.specs.Meant.{taken, rowFrom, fieldFrom, silent, unknown, of, numbers, wrong}
 use Rattle.notation.specs.Steps.{parentFrom}
 use Rattle.notation.proofs.MeantLaws.{row-said, row-wrong, field-parent}
 use Rattle.parser.specs.declared.Taken.{Taken}
 use Rattle.parser.specs.declared.Taken.the-variants.{Said, NotSaid}
-use Rattle.parser.specs.declared.Sort.the-variants.{Silent, Unknown}
+use Rattle.parser.specs.declared.Sort.the-variants.{Silent, Unknown, Good, Wrong}
 use Rattle.parser.specs.declared.Line.{Line}
 use Rattle.parser.specs.Lines.{wordsFrom, placeBehind, Behind, takenAt, takenIn, BehindTaken, Takes, lineTold, Tells}
 
@@ -136,6 +136,14 @@ module _ (text : List ℕ) (at end : ℕ) where
   pub told-unknown : (r : Line) → r .sort ≡ Unknown → lineTold text end r ≡ unknown
   unfolding lineTold
   told-unknown r e = rw (e, lineTold)
+
+  pub told-good : (r : Line) → r .sort ≡ Good → lineTold text end r ≡ of (r .section) (numbers (take (r .count) (r .numbers)))
+  unfolding lineTold
+  told-good r e = rw (e, lineTold)
+
+  pub told-wrong : (r : Line) → r .sort ≡ Wrong → lineTold text end r ≡ of (r .section) (wrong (r .count) (wordsOf (part text (r .place) end)))
+  unfolding lineTold
+  told-wrong r e = rw (e, lineTold)
 
   pub tells-later : (r : Line) (says said : meant.Line) (p : ℕ) → says ≡ said → Behind text at end p → Tells text p end said r → Tells text at end says r
   tells-later r says said p e b t =
