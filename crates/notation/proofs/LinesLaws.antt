@@ -107,3 +107,23 @@ record-or-none version section (w ∷ ws) = go (wordIn keywords w)
     go (some s) =
         let x = fieldsFrom (lineFields version s) ws in
         rw (both s x) (sized s x (eqb s section) (eqb-true s section) (fields-length (lineFields version s) ws))
+
+-- a line that says its fields says all of them
+unfoldable pub WholeLine : Line → Type 0
+WholeLine silent = Unit
+WholeLine unknown = Unit
+WholeLine (of s (numbers ns)) = length ns ≡ fieldsOf s
+WholeLine (of s (wrong k ws)) = Unit
+
+pub whole-line : (version : ℕ) (l : List Word) → WholeLine (lineSaid version l)
+unfolding WholeLine lineSaid manyIn
+whole-line version [] = tt
+whole-line version (w ∷ ws) = go (wordIn keywords w)
+  where
+    whole : (s : ℕ) (x : Said) → manyIn x (length (lineFields version s)) ≡ length (lineFields version s) → WholeLine (of s x)
+    whole s (numbers ns) e = e ∙ fields-many version s
+    whole s (wrong k us) e = tt
+
+    go : (o : Option ℕ) → WholeLine (elim o [ none ↦ unknown | some s ↦ of s (fieldsFrom (lineFields version s) ws) ])
+    go none = tt
+    go (some s) = whole s (fieldsFrom (lineFields version s) ws) (fields-length (lineFields version s) ws)

@@ -54,7 +54,7 @@ count-few section r h = go (r .sort) refl
     go Wrong e = rw (e, countIn) (omega arith)
 
 -- ---- zeros
-drop-zeros : (k m : ℕ) → drop {A = ℕ} k (replicate m 0) ≡ replicate (m - k) 0
+pub drop-zeros : (k m : ℕ) → drop {A = ℕ} k (replicate m 0) ≡ replicate (m - k) 0
 drop-zeros zero m = let e : m - 0 ≡ m = omega arith in rw e
 drop-zeros (suc k) zero = let e : 0 - suc k ≡ 0 = omega arith in rw e
 drop-zeros (suc k) (suc m) = let e : suc m - suc k ≡ m - k = omega arith in rw e (drop-zeros k m)

@@ -4,3 +4,5 @@ pub mod FieldsLaws
 pub mod FillLaws
 pub mod Unique
 pub mod MistakeLaws
+pub mod TallyLaws
+pub mod ReadLaws

@@ -8,6 +8,8 @@ use Rattle.parser.proofs.version_of.Kinds as version-kinds
 use Rattle.parser.proofs.version_of.Reads as version-reads
 use Rattle.parser.proofs.mistake_of.Kinds as mistake-kinds
 use Rattle.parser.proofs.mistake_of.Reads as mistake-reads
+use Rattle.parser.proofs.read.Kinds as read-kinds
+use Rattle.parser.proofs.read.Reads as read-reads
 
 pub fill : Settles 2 fill-kinds.ps fill-kinds.r fill-reads.Post
 fill κs a x y ws vs p q = (p .0 ∙ sym (q .0), (λ i. (tt, (tt, (tt, ((p .1 ∙ sym (q .1)) i, tt))))))
@@ -17,3 +19,21 @@ version κs a x y ws vs p q = (p ∙ sym q, refl)
 
 pub mistake : Settles 1 mistake-kinds.ps mistake-kinds.r mistake-reads.Post
 mistake κs a x y ws vs p q = (p ∙ sym q, refl)
+
+pub read : Settles 7 read-kinds.ps read-kinds.r read-reads.Post
+read κs a x y ws vs p q = (
+  λ i. record { mistake = (p .mistake ∙ sym (q .mistake)) i; lengths = (p .lengths ∙ sym (q .lengths)) i },
+  λ i. (
+    tt,
+    (
+      (p .header-is ∙ sym (q .header-is)) i,
+      (
+        (p .systems-are ∙ sym (q .systems-are)) i,
+        (
+          (p .vls-are ∙ sym (q .vls-are)) i,
+          ((p .streams-are ∙ sym (q .streams-are)) i, ((p .ports-are ∙ sym (q .ports-are)) i, ((p .hops-are ∙ sym (q .hops-are)) i, tt))),
+        ),
+      ),
+    ),
+  ),
+)

@@ -5,7 +5,7 @@ use mathlib.Core.Path.{_≡_}
 use mathlib.Core.List.{List, [], _∷_}
 use mathlib.Core.Option.{Option, none, some}
 use lib.Dec.{leb, eqb}
-use lib.ListN.{length, take}
+use lib.ListN.{length, getD, take}
 use lib.Seq.{paste}
 use Rattle.base.specs.Pick.{pick}
 use Rattle.words.specs.Words.{wordsOf}
@@ -91,3 +91,7 @@ listWith list at ns count = pick (leb count (length list - at)) (paste list at n
 
 unfoldable pub placeWith : List ℕ → ℕ → ℕ → ℕ
 placeWith list at count = pick (leb count (length list - at)) (at + count) at
+
+-- the version and the delays, in a row that has room for any
+unfoldable pub headRow : ℕ → List ℕ → List ℕ
+headRow v ds = v ∷ getD ds 0 0 ∷ getD ds 1 0 ∷ getD ds 2 0 ∷ getD ds 3 0 ∷ 0 ∷ 0 ∷ 0 ∷ 0 ∷ 0 ∷ 0 ∷ []

@@ -1,6 +1,7 @@
 -- The first mistake of a text, by its line (from 1) and the word that it is said of.
 -- Assumes nothing.
-use Prim.Native.Nat.{ℕ, zero, suc, _+_, _-_}
+use Prim.Native.Nat.{ℕ, zero, suc, _+_, _-_, _*_, _≤_}
+use mathlib.Core.Path.{_≡_}
 use mathlib.Core.Bool.{Bool, true, false}
 use mathlib.Core.List.{List, [], _∷_}
 use lib.Dec.{ltb, eqb}
@@ -11,7 +12,7 @@ use Rattle.words.specs.Words.{wordsOf}
 use Rattle.words.specs.Places.{part, lineEnd, wordAt}
 use Rattle.notation.specs.Notation.{Word}
 use Rattle.notation.specs.Meant as meant
-use Rattle.notation.specs.Meant.{numbers, wrong, silent, unknown, of, lineSaid, textLines}
+use Rattle.notation.specs.Meant.{numbers, wrong, silent, unknown, of, lineSaid, textLines, sectionIn}
 use Rattle.notation.specs.Steps.{fieldsOf}
 use Rattle.parser.specs.declared.Fault.{Fault}
 use Rattle.parser.specs.declared.Fault.the-variants.{Nothing, Unknown, NotSaid, Over, TooMany, NoDelays}
@@ -91,3 +92,15 @@ countedBy most counts r = elim (r .sort) [
   | sort.Good ↦ pick (ltb (getD counts (r .section) 0) (getD most (r .section) 0)) (set counts (r .section) (suc (getD counts (r .section) 0))) counts
   | sort.Wrong ↦ counts
 ]
+
+-- ---- a text without one
+-- Each section has no more numbers than those of the lines that it may have, and there is a line of delays.
+abbrev pub SectionsFit : Type 0
+SectionsFit =
+    (text : List ℕ) (version : ℕ) (most : List ℕ) (s : ℕ) → length most ≡ 7 → isFault (mistakeIn text version most .fault) ≡ false
+    → length (sectionIn version s (textLines text)) ≤ getD most s 0 * fieldsOf s
+
+abbrev pub DelaysSaid : Type 0
+DelaysSaid =
+    (text : List ℕ) (version : ℕ) (most : List ℕ) → length most ≡ 7 → isFault (mistakeIn text version most .fault) ≡ false
+    → 4 ≤ length (sectionIn version 0 (textLines text))

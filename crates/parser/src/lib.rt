@@ -2,13 +2,15 @@
 // Every public routine answers for all input.
 use layout::Name;
 use layout::Shape;
+use layout::sizes;
 use layout::sizes::LONGEST;
 use notation::Form;
 use words::Numeral;
 use words::Span;
 ghost use mathlib.Core.Path.{_≡_};
 ghost use Prim.Native.Nat.{suc, _-_, _^_, _≤_, _<_, min};
-ghost use lib.Dec.{ltb};
+ghost use mathlib.Core.List.{[], _∷_};
+ghost use lib.Dec.{leb, ltb};
 ghost use lib.ListN.{length, getD, set, replicate};
 ghost use Rattle.base.specs.Pick.{pick};
 ghost use Rattle.layout.specs.Layout.{blank};
@@ -19,9 +21,10 @@ ghost use Rattle.notation.specs.Notation.{keywords, wordIn, choices, formOf, li
 ghost use Rattle.notation.specs.Meant.{fieldFrom, fieldsFrom, lineSaid, of, rowFrom, textLines, sectionIn, versionIn};
 ghost use Rattle.notation.specs.Steps.{fieldsOf, parentFrom, shapeFrom};
 ghost use Rattle.notation.specs.Fitted.{held, fitted};
-ghost use Rattle.parser.specs.Lines.{takenAt, sortBehind, Behind, Takes, lineTold, Tells, countIn, listWith, placeWith};
+ghost use Rattle.parser.specs.Lines.{takenAt, sortBehind, Behind, Takes, lineTold, Tells, countIn, listWith, placeWith, headRow};
 ghost use Rattle.parser.specs.declared.Fault.the-variants.{Nothing, NotSaid, Over, TooMany};
 ghost use Rattle.parser.specs.Mistakes.{madeAt, lineFault, isFault, mistakeAt, countedBy, ofNoLine, mistakeIn};
+ghost use Rattle.parser.specs.Tables.{mostFor, ReadsTo};
 
 // What words say of a field: its number and the place behind them, or they do not say it.
 enum Taken {
@@ -65,6 +68,12 @@ pub struct Mistake {
     pub field: usize,
     pub from: usize,
     pub to: usize,
+}
+
+// A text that was read: its first mistake, and how many numbers each list has, none where there is a mistake.
+pub struct Parsed {
+    pub mistake: Mistake,
+    pub lengths: [usize; 6],
 }
 
 // The place of a word among those that begin a line.
@@ -555,4 +564,115 @@ pub fn mistake_of(text: &[u8], version: u64, most: [usize; 7]) -> Mistake
         return of_no_line(Fault::NoDelays);
     }
     of_no_line(Fault::Nothing)
+}
+
+// One line of delays, where the version and they have room.
+fn delay_lines(room: usize) -> usize
+    ensures { λ r. ⌜ r ≡ pick (leb 5 room) 1 0 ⌝ }
+{
+    if 5 <= room {
+        return 1;
+    }
+    0
+}
+
+// How many lines each section may have, by the room of its list.
+fn most_in(rooms: [usize; 6]) -> [usize; 7]
+    ensures { λ r. ⌜ r ≡ mostFor rooms ⌝ }
+{
+    let delays = delay_lines(rooms[0]);
+    [
+        delays,
+        rooms[1] / sizes::SYSTEM,
+        rooms[2] / sizes::VL,
+        rooms[3] / sizes::STREAM,
+        rooms[4] / sizes::PORT,
+        rooms[5] / sizes::HOP,
+        1,
+    ]
+}
+
+// The version and the delays.
+fn put_header(text: &[u8], version: u64, list: &mut [u64]) -> usize
+    ensures { λ r. ⌜ (r ≡ placeWith (replicate (length (now (list .entry))) 0) 0 5) × (now (list .exit) ≡ listWith (replicate (length (now (list .entry))) 0) 0 (headRow version (fitted (fieldsOf 0) 4 (sectionIn version 0 (textLines (now (text .entry)))))) 5) ⌝ }
+{
+    let mut delays = [0u64; 4];
+    fill(text, version, 0, &mut delays);
+    let row = [
+        version,
+        delays[0],
+        delays[1],
+        delays[2],
+        delays[3],
+        0,
+        0,
+        0,
+        0,
+        0,
+        0,
+    ];
+    clear(list);
+    put_numbers(list, 0, row, 5)
+}
+
+fn header_or_zeros(good: bool, text: &[u8], version: u64, list: &mut [u64]) -> usize
+    ensures { λ r. ⌜ (r ≡ pick good (placeWith (replicate (length (now (list .entry))) 0) 0 5) 0) × (now (list .exit) ≡ pick good (listWith (replicate (length (now (list .entry))) 0) 0 (headRow version (fitted (fieldsOf 0) 4 (sectionIn version 0 (textLines (now (text .entry)))))) 5) (replicate (length (now (list .entry))) 0)) ⌝ }
+{
+    if good {
+        return put_header(text, version, list);
+    }
+    clear(list);
+    0
+}
+
+fn section_or_zeros(
+    good: bool,
+    text: &[u8],
+    version: u64,
+    section: usize,
+    list: &mut [u64],
+) -> usize
+    ensures { λ r. ⌜ (r ≡ pick good (length (held (fieldsOf section) (length (now (list .entry))) (sectionIn version section (textLines (now (text .entry)))))) 0) × (now (list .exit) ≡ pick good (fitted (fieldsOf section) (length (now (list .entry))) (sectionIn version section (textLines (now (text .entry))))) (replicate (length (now (list .entry))) 0)) ⌝ }
+{
+    if good {
+        return fill(text, version, section, list);
+    }
+    clear(list);
+    0
+}
+
+// Reads a text to the lists of its sections: on a mistake every lent place is zero.
+pub fn read(
+    text: &[u8],
+    header: &mut [u64],
+    systems: &mut [u64],
+    vls: &mut [u64],
+    streams: &mut [u64],
+    ports: &mut [u64],
+    hops: &mut [u64],
+) -> Parsed
+    ensures { λ r. ⌜ ReadsTo (now (text .entry)) (length (now (header .entry)) ∷ length (now (systems .entry)) ∷ length (now (vls .entry)) ∷ length (now (streams .entry)) ∷ length (now (ports .entry)) ∷ length (now (hops .entry)) ∷ []) r (now (header .exit)) (now (systems .exit)) (now (vls .exit)) (now (streams .exit)) (now (ports .exit)) (now (hops .exit)) ⌝ }
+{
+    let version = version_of(text);
+    let rooms = [
+        header.len(),
+        systems.len(),
+        vls.len(),
+        streams.len(),
+        ports.len(),
+        hops.len(),
+    ];
+    let mistake = mistake_of(text, version, most_in(rooms));
+    let fault = mistake.fault;
+    let good = !is_fault(fault);
+    let a = header_or_zeros(good, text, version, header);
+    let b = section_or_zeros(good, text, version, 1, systems);
+    let c = section_or_zeros(good, text, version, 2, vls);
+    let d = section_or_zeros(good, text, version, 3, streams);
+    let e = section_or_zeros(good, text, version, 4, ports);
+    let f = section_or_zeros(good, text, version, 5, hops);
+    Parsed {
+        mistake: mistake,
+        lengths: [a, b, c, d, e, f],
+    }
 }
