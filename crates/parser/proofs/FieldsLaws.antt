@@ -16,11 +16,11 @@ use Rattle.notation.specs.Meant as meant
 use Rattle.notation.specs.Meant.{numbers, wrong, of, fieldsFrom}
 use Rattle.notation.specs.Steps.{shapeFrom}
 use Rattle.notation.proofs.MeantLaws.{withNumbers, with-last, with-wrong, with-none, fields-next, fields-stop, fields-end, fields-over}
-use Rattle.parser.specs.declared.Taken.{Taken}
-use Rattle.parser.specs.declared.Taken.the-variants.{Said, NotSaid}
-use Rattle.parser.specs.declared.Sort.{Sort}
-use Rattle.parser.specs.declared.Sort.the-variants.{Wrong}
-use Rattle.parser.specs.declared.Line.{Line}
+use Rattle.parser.specs.declared.fields.Taken.{Taken}
+use Rattle.parser.specs.declared.fields.Taken.the-variants.{Said, NotSaid}
+use Rattle.parser.specs.declared.lines.Sort.{Sort}
+use Rattle.parser.specs.declared.lines.Sort.the-variants.{Wrong}
+use Rattle.parser.specs.declared.lines.Line.{Line}
 use Rattle.parser.specs.Lines.{Behind, takenIn, BehindTaken, Takes, sortBehind, lineTold, Tells}
 use Rattle.parser.proofs.LineLaws.{behind-here, behind-more}
 

@@ -19,9 +19,9 @@ use Rattle.notation.specs.Steps.{fieldsOf, linesFrom}
 use Rattle.notation.specs.Fitted.{held, fitted}
 use Rattle.notation.proofs.FittedLaws.{held-none, fitted-none, held-full, fitted-full, held-more, fitted-more}
 use Rattle.notation.proofs.LinesLaws.{lines-next, section-next, record-or-none}
-use Rattle.parser.specs.declared.Sort.{Sort}
-use Rattle.parser.specs.declared.Sort.the-variants.{Silent, Unknown, Good, Wrong}
-use Rattle.parser.specs.declared.Line.{Line}
+use Rattle.parser.specs.declared.lines.Sort.{Sort}
+use Rattle.parser.specs.declared.lines.Sort.the-variants.{Silent, Unknown, Good, Wrong}
+use Rattle.parser.specs.declared.lines.Line.{Line}
 use Rattle.parser.specs.Lines.{lineTold, Tells, countIn, listWith, placeWith}
 
 -- ---- the numbers of a line

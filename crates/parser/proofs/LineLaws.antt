@@ -19,10 +19,10 @@ use Rattle.notation.specs.Meant as meant
 use Rattle.notation.specs.Meant.{taken, rowFrom, fieldFrom, silent, unknown, of, numbers, wrong}
 use Rattle.notation.specs.Steps.{parentFrom}
 use Rattle.notation.proofs.MeantLaws.{row-said, row-wrong, field-parent}
-use Rattle.parser.specs.declared.Taken.{Taken}
-use Rattle.parser.specs.declared.Taken.the-variants.{Said, NotSaid}
-use Rattle.parser.specs.declared.Sort.the-variants.{Silent, Unknown, Good, Wrong}
-use Rattle.parser.specs.declared.Line.{Line}
+use Rattle.parser.specs.declared.fields.Taken.{Taken}
+use Rattle.parser.specs.declared.fields.Taken.the-variants.{Said, NotSaid}
+use Rattle.parser.specs.declared.lines.Sort.the-variants.{Silent, Unknown, Good, Wrong}
+use Rattle.parser.specs.declared.lines.Line.{Line}
 use Rattle.parser.specs.Lines.{wordsFrom, placeBehind, Behind, takenAt, takenIn, BehindTaken, Takes, lineTold, Tells}
 
 -- ---- places

@@ -17,12 +17,12 @@ use Rattle.notation.specs.Meant as meant
 use Rattle.notation.specs.Meant.{lineSaid}
 use Rattle.notation.specs.Steps.{linesFrom}
 use Rattle.notation.proofs.LinesLaws.{lines-next, lines-done}
-use Rattle.parser.specs.declared.Sort.{Sort}
-use Rattle.parser.specs.declared.Sort.the-variants.{Silent, Unknown, Good, Wrong}
-use Rattle.parser.specs.declared.Fault.{Fault}
-use Rattle.parser.specs.declared.Fault.the-variants.{Nothing, NoDelays}
-use Rattle.parser.specs.declared.Mistake.{Mistake}
-use Rattle.parser.specs.declared.Line.{Line}
+use Rattle.parser.specs.declared.lines.Sort.{Sort}
+use Rattle.parser.specs.declared.lines.Sort.the-variants.{Silent, Unknown, Good, Wrong}
+use Rattle.parser.specs.declared.mistakes.Fault.{Fault}
+use Rattle.parser.specs.declared.mistakes.Fault.the-variants.{Nothing, NoDelays}
+use Rattle.parser.specs.declared.mistakes.Mistake.{Mistake}
+use Rattle.parser.specs.declared.lines.Line.{Line}
 use Rattle.parser.specs.Lines.{lineTold, Tells}
 use Rattle.parser.specs.Mistakes.{lineFault, counted, countedBy, isFault, lineStart, madeAt, mistakeAt, ofNoLine, mistakeFrom}
 use Rattle.parser.proofs.LineLaws.{told-silent, told-unknown, told-good, told-wrong}

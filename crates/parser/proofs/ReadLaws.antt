@@ -13,7 +13,7 @@ use Rattle.base.specs.Pick.{pick}
 use Rattle.notation.specs.Meant.{textLines, versionIn, sectionIn, listIn}
 use Rattle.notation.specs.Steps.{fieldsOf}
 use Rattle.notation.specs.Fitted.{held, fitted}
-use Rattle.parser.specs.declared.Mistake.{Mistake}
+use Rattle.parser.specs.declared.mistakes.Mistake.{Mistake}
 use Rattle.parser.specs.Lines.{listWith, placeWith, headRow}
 use Rattle.parser.specs.Mistakes.{isFault, mistakeIn}
 use Rattle.parser.specs.Tables.{mostFor, firstMistake, padded, readList, readLength}

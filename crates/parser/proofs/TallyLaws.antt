@@ -19,9 +19,9 @@ use Rattle.notation.specs.Meant as meant
 use Rattle.notation.specs.Meant.{numbers, wrong, silent, unknown, of, lineSaid, textLines, numbersOf, sectionIn}
 use Rattle.notation.specs.Steps.{fieldsOf}
 use Rattle.notation.proofs.LinesLaws.{WholeLine, whole-line, section-none, section-next}
-use Rattle.parser.specs.declared.Fault.{Fault}
-use Rattle.parser.specs.declared.Fault.the-variants.{Nothing, Unknown, NotSaid, Over, TooMany, NoDelays}
-use Rattle.parser.specs.declared.Mistake.{Mistake}
+use Rattle.parser.specs.declared.mistakes.Fault.{Fault}
+use Rattle.parser.specs.declared.mistakes.Fault.the-variants.{Nothing, Unknown, NotSaid, Over, TooMany, NoDelays}
+use Rattle.parser.specs.declared.mistakes.Mistake.{Mistake}
 use Rattle.parser.specs.Mistakes.{lineFault, counted, isFault, lineStart, madeAt, mistakeAt, ofNoLine, mistakeFrom, mistakeIn, SectionsFit, DelaysSaid}
 
 module _ (most : List ℕ) (m : length most ≡ 7) (s : ℕ) where

@@ -2,12 +2,12 @@
 -- Assumes nothing.
 use mathlib.Core.Path.{_≡_, refl, sym, _∙_}
 use Rattle.base.specs.Settles.{Settles}
-use Rattle.parser.proofs.fill.Kinds as fill-kinds
-use Rattle.parser.proofs.fill.Reads as fill-reads
-use Rattle.parser.proofs.version_of.Kinds as version-kinds
-use Rattle.parser.proofs.version_of.Reads as version-reads
-use Rattle.parser.proofs.mistake_of.Kinds as mistake-kinds
-use Rattle.parser.proofs.mistake_of.Reads as mistake-reads
+use Rattle.parser.proofs.filling.fill.Kinds as fill-kinds
+use Rattle.parser.proofs.filling.fill.Reads as fill-reads
+use Rattle.parser.proofs.filling.version_of.Kinds as version-kinds
+use Rattle.parser.proofs.filling.version_of.Reads as version-reads
+use Rattle.parser.proofs.mistakes.mistake_of.Kinds as mistake-kinds
+use Rattle.parser.proofs.mistakes.mistake_of.Reads as mistake-reads
 use Rattle.parser.proofs.read.Kinds as read-kinds
 use Rattle.parser.proofs.read.Reads as read-reads
 

@@ -13,11 +13,11 @@ use Rattle.words.specs.Places.{part, wordAt}
 use Rattle.notation.specs.Notation.{Word}
 use Rattle.notation.specs.Meant as meant
 use Rattle.notation.specs.Meant.{taken, numbers, wrong, silent, unknown, of}
-use Rattle.parser.specs.declared.Taken.{Taken}
-use Rattle.parser.specs.declared.Taken.the-variants.{Said, NotSaid}
-use Rattle.parser.specs.declared.Sort.{Sort}
-use Rattle.parser.specs.declared.Sort.the-variants.{Silent, Unknown, Good, Wrong}
-use Rattle.parser.specs.declared.Line.{Line}
+use Rattle.parser.specs.declared.fields.Taken.{Taken}
+use Rattle.parser.specs.declared.fields.Taken.the-variants.{Said, NotSaid}
+use Rattle.parser.specs.declared.lines.Sort.{Sort}
+use Rattle.parser.specs.declared.lines.Sort.the-variants.{Silent, Unknown, Good, Wrong}
+use Rattle.parser.specs.declared.lines.Line.{Line}
 
 -- ---- places
 -- how many words a text has from a place on, before another

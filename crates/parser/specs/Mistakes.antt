@@ -14,11 +14,11 @@ use Rattle.notation.specs.Notation.{Word}
 use Rattle.notation.specs.Meant as meant
 use Rattle.notation.specs.Meant.{numbers, wrong, silent, unknown, of, lineSaid, textLines, sectionIn}
 use Rattle.notation.specs.Steps.{fieldsOf}
-use Rattle.parser.specs.declared.Fault.{Fault}
-use Rattle.parser.specs.declared.Fault.the-variants.{Nothing, Unknown, NotSaid, Over, TooMany, NoDelays}
-use Rattle.parser.specs.declared.Mistake.{Mistake}
-use Rattle.parser.specs.declared.Sort.the-variants as sort
-use Rattle.parser.specs.declared.Line.{Line}
+use Rattle.parser.specs.declared.mistakes.Fault.{Fault}
+use Rattle.parser.specs.declared.mistakes.Fault.the-variants.{Nothing, Unknown, NotSaid, Over, TooMany, NoDelays}
+use Rattle.parser.specs.declared.mistakes.Mistake.{Mistake}
+use Rattle.parser.specs.declared.lines.Sort.the-variants as sort
+use Rattle.parser.specs.declared.lines.Line.{Line}
 use Rattle.parser.specs.Lines.{placeBehind}
 
 -- ---- a line

@@ -9,7 +9,7 @@ use Rattle.base.specs.Pick.{pick}
 use Rattle.base.specs.Tabulate.{tabulate}
 use Rattle.notation.specs.Meant.{textLines, versionIn, listIn}
 use Rattle.notation.specs.Steps.{fieldsOf}
-use Rattle.parser.specs.declared.Mistake.{Mistake}
+use Rattle.parser.specs.declared.mistakes.Mistake.{Mistake}
 use Rattle.parser.specs.declared.Parsed.{Parsed}
 use Rattle.parser.specs.Mistakes.{isFault, mistakeIn}
 
