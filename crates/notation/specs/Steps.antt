@@ -1,5 +1,5 @@
--- What a text says, in the steps in which it is read from the front: its lines from a place on, how many fields a line has, one field by its
--- shape, a parent by its first word. No demand is stated by these; that they are parts of what is said, proofs/ has. Assumes nothing.
+-- What a text says, in the steps in which it is read from the front: its lines from a place on, how many fields a line has, one field by
+-- its shape, a parent by its first word. No demand is stated by these; that they are parts of what is said, proofs/ has. Assumes nothing.
 use Prim.Native.Nat.{ℕ}
 use mathlib.Core.List.{List, [], map}
 use mathlib.Core.Option.{Option, none, some}

@@ -89,7 +89,8 @@ unfoldable pub countedBy : List ℕ → List ℕ → Line → List ℕ
 countedBy most counts r = elim (r .sort) [
   | sort.Silent ↦ counts
   | sort.Unknown ↦ counts
-  | sort.Good ↦ pick (ltb (getD counts (r .section) 0) (getD most (r .section) 0)) (set counts (r .section) (suc (getD counts (r .section) 0))) counts
+  | sort.Good ↦
+      pick (ltb (getD counts (r .section) 0) (getD most (r .section) 0)) (set counts (r .section) (suc (getD counts (r .section) 0))) counts
   | sort.Wrong ↦ counts
 ]
 
