@@ -1,0 +1,1 @@
+// Tables as text, both ways: what is printed for a table is packed to its bytes again (specs/). There is no code here.
