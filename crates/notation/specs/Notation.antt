@@ -1,5 +1,6 @@
 -- A table as text (examples/README.md, "Writing a table"): the words that begin a line, the fields of a line, and each field in words.
--- Which fields a line has, and in which order, the layout says; a field that a version does not have, of 0 bits, has no word. Assumes nothing.
+-- Which fields a line has, and in which order, the layout says; a field that a version does not have, of 0 bits, has no word.
+-- Assumes nothing.
 use Prim.Native.Nat.{ℕ, zero, suc, _^_, _-_, min}
 use mathlib.Core.Bool.{Bool}
 use mathlib.Core.List.{List, [], _∷_}
