@@ -1,4 +1,5 @@
 // The sentence of a mistake of a text: its line, and the field or the word.
+// Each fault has its own words between the line and the word that is shown.
 use crate::names::put_keyword;
 use crate::names::put_name;
 use crate::names::put_start;
@@ -66,24 +67,18 @@ fn put_most(line: &mut [u8], at: usize, section: usize) -> usize {
     }
 }
 
-fn put_second(line: &mut [u8], at: usize, section: usize) -> usize {
-    let behind = text::put_bytes(line, at, b"a second line of ");
-    put_keyword(line, behind, section)
-}
-
+// A line more than its section may have: the delays and the version have one.
 fn put_too_many(line: &mut [u8], at: usize, section: usize) -> usize {
-    let a = text::put_bytes(line, at, b"more than ");
-    let b = put_most(line, a, section);
-    let c = text::put_byte(line, b, b' ');
-    let d = put_keyword(line, c, section);
-    text::put_bytes(line, d, b" lines")
-}
-
-fn put_more(line: &mut [u8], at: usize, section: usize) -> usize {
     match section {
-        0 => put_second(line, at, section),
-        6 => put_second(line, at, section),
-        _ => put_too_many(line, at, section),
+        0 => text::put_bytes(line, at, b"a second line of delays"),
+        6 => text::put_bytes(line, at, b"a second line of version"),
+        _ => {
+            let a = text::put_bytes(line, at, b"more than ");
+            let b = put_most(line, a, section);
+            let c = text::put_byte(line, b, b' ');
+            let d = put_keyword(line, c, section);
+            text::put_bytes(line, d, b" lines")
+        }
     }
 }
 
@@ -102,7 +97,7 @@ fn put_fault(line: &mut [u8], at: usize, given: &[u8], version: u64, m: Mistake)
         Fault::Unknown => put_unknown(line, at, given, m),
         Fault::NotSaid => put_not_said(line, at, given, version, m),
         Fault::Over => put_over(line, at, given, m),
-        Fault::TooMany => put_more(line, at, m.section),
+        Fault::TooMany => put_too_many(line, at, m.section),
         _ => at,
     }
 }

@@ -52,17 +52,30 @@ pub(crate) fn put_name(line: &mut [u8], at: usize, name: Name) -> usize {
     }
 }
 
+// A byte as it is shown: one that would move a terminal's cursor is not.
+fn shown(byte: u8) -> u8 {
+    match byte {
+        0..=31 => b'?',
+        127 => b'?',
+        _ => byte,
+    }
+}
+
 fn put_part(line: &mut [u8], at: usize, given: &[u8], from: usize, to: usize) -> usize {
-    if given.len() < to {
-        return at;
+    let n = given.len();
+    let mut next = at;
+    let mut k = from;
+    while k < n {
+        if to <= k {
+            return next;
+        }
+        if SHOWN <= k - from {
+            return next;
+        }
+        next = text::put_byte(line, next, shown(given[k]));
+        k += 1;
     }
-    if to < from {
-        return at;
-    }
-    if SHOWN < to - from {
-        return text::put_bytes(line, at, &given[from..from + SHOWN]);
-    }
-    text::put_bytes(line, at, &given[from..to])
+    next
 }
 
 // The bytes of a text from one place to before another, in quotes.

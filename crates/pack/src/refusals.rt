@@ -1,10 +1,12 @@
 // The sentence of a table that the writer refuses: the line of the record, and what its field has to be.
+// The line is found by a second walk over the text, since lists of numbers do not tell it.
 use crate::names::put_keyword;
 use crate::names::put_name;
 use crate::names::put_start;
 use layout::Kind;
 use layout::Name;
 use layout::Shape;
+use layout::sizes::MOST_SUBLINKS;
 use table::Answer;
 
 // The longest word that begins a line.
@@ -92,16 +94,9 @@ fn put_range(line: &mut [u8], at: usize, s: Shape) -> usize {
         Kind::Reference => put_reference(line, at, name, s.width),
         Kind::Padding => put_between(line, at, 0, 0),
         Kind::Gap => text::put_bytes(line, at, b" is 1, 2, 4, 8, 16, 32, 64 or 128"),
-        Kind::LessOne => put_between(line, at, 1, 4),
+        Kind::LessOne => put_between(line, at, 1, MOST_SUBLINKS as u64),
         Kind::Speed => text::put_bytes(line, at, b" is 100 or 10"),
     }
-}
-
-fn put_field(line: &mut [u8], at: usize, s: Shape) -> usize {
-    let name = s.name;
-    let named = put_name(line, at, name);
-    let behind = put_range(line, named, s);
-    text::put_bytes(line, behind, b", not as given\n")
 }
 
 fn put_order(line: &mut [u8], at: usize, kind: usize, k: usize) -> usize {
@@ -118,7 +113,11 @@ fn put_order(line: &mut [u8], at: usize, kind: usize, k: usize) -> usize {
 fn put_test(line: &mut [u8], at: usize, kind: usize, test: usize) -> usize {
     let n = layout::fields_in(kind);
     if test < n {
-        return put_field(line, at, layout::shape_at(kind, test));
+        let s = layout::shape_at(kind, test);
+        let name = s.name;
+        let named = put_name(line, at, name);
+        let behind = put_range(line, named, s);
+        return text::put_bytes(line, behind, b", not as given\n");
     }
     put_order(line, at, kind, test - n)
 }
