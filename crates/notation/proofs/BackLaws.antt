@@ -146,7 +146,7 @@ module _ (lists : ℕ → List ℕ) (p : Printable lists) where
   sections-words (suc n) h =
       all-words-append (recordLines version lists n) _ (sections-words n (omega arith)) (section-words (suc n) (omega arith) h)
 
-  version-sayable : (w : ℕ) → Sayable (lineFields w versionLine) (version ∷ [])
+  pub version-sayable : (w : ℕ) → Sayable (lineFields w versionLine) (version ∷ [])
   unfolding Sayable sayable spoken formOf numberOf lineFields layoutIn header
   version-sayable w = (p .version, tt)
 
@@ -158,19 +158,21 @@ module _ (lists : ℕ → List ℕ) (p : Printable lists) where
   )
 
   -- the version's line has the same fields in every version, so it is read before the version is known
-  version-said : versionIn (tableLines lists ++ ([] ∷ [])) ≡ version
+  pub version-said : versionIn (tableLines lists ++ ([] ∷ [])) ≡ version
   unfolding versionIn tableLines sectionIn lineWords lineFields
   version-said = rw (line-numbers 1 versionLine versionLine (version ∷ []) (omega arith) (version-sayable 1))
 
-  table-said : (s : ℕ) → s ≤ 5
-      → sectionIn version s (tableLines lists ++ ([] ∷ [])) ≡ pick (eqb 0 s) (drop 1 (lists 0)) [] ++ pick (within 1 5 s) (lists s) []
+  pub table-said : (s : ℕ)
+      → sectionIn version s (tableLines lists ++ ([] ∷ []))
+      ≡ pick (eqb versionLine s) (version ∷ []) [] ++ (pick (eqb 0 s) (drop 1 (lists 0)) [] ++ pick (within 1 5 s) (lists s) [])
   unfolding tableLines sectionIn
-  table-said s h =
+  table-said s =
       section-end version s (tableLines lists)
-      ∙ rw (line-numbers version s versionLine (version ∷ []) (omega arith) (version-sayable version), ne-eqb 6 s (λ e. omega (arith, e)))
+      ∙ ap₂ _++_
+      (line-numbers version s versionLine (version ∷ []) (omega arith) (version-sayable version))
       (ap₂ _++_ (line-numbers version s 0 (drop 1 (lists 0)) (omega arith) (p .delays)) (sections-said s 5 (omega arith)))
 
-  lines-are : textLines (printed lists) ≡ tableLines lists ++ ([] ∷ [])
+  pub lines-are : textLines (printed lists) ≡ tableLines lists ++ ([] ∷ [])
   unfolding printed
   lines-are = lines-again (tableLines lists) table-words
 
@@ -186,13 +188,14 @@ module _ (lists : ℕ → List ℕ) (p : Printable lists) where
 pub read-back : ReadBack
 unfolding listIn
 read-back lists p zero h =
-    rw (lines-are lists p, version-said lists p, table-said lists p 0 h)
+    rw (lines-are lists p, version-said lists p, table-said lists p 0)
     (ap (λ (ns : List ℕ). getD (lists 0) 0 1 ∷ ns) (append-nil (drop 1 (lists 0))) ∙ header-whole lists p)
 read-back lists p (suc s) h =
     rw (
       lines-are lists p,
       version-said lists p,
-      table-said lists p (suc s) h,
+      table-said lists p (suc s),
+      ne-eqb 6 (suc s) (λ e. omega (arith, e)),
       ne-eqb 0 (suc s) (λ e. omega (arith, e)),
       within-yes 1 5 (suc s) (omega arith, h),
     )

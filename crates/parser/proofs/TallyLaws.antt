@@ -26,10 +26,10 @@ use Rattle.parser.specs.Mistakes.{lineFault, counted, isFault, lineStart
 
 module _ (most : List ℕ) (m : length most ≡ 7) (s : ℕ) where
   -- the counts of a line that has no fault
-  record Counted (counts : List ℕ) (new : List ℕ) (ns : List ℕ) : Type 0 where
-    long : length new ≡ 7
-    few : getD new s 0 ≤ getD most s 0
-    size : getD new s 0 * fieldsOf s ≡ getD counts s 0 * fieldsOf s + length ns
+  pub record Counted (counts : List ℕ) (new : List ℕ) (ns : List ℕ) : Type 0 where
+    pub long : length new ≡ 7
+    pub few : getD new s 0 ≤ getD most s 0
+    pub size : getD new s 0 * fieldsOf s ≡ getD counts s 0 * fieldsOf s + length ns
 
   within-seven : (counts : List ℕ) (k : ℕ) → getD counts k 0 < getD most k 0 → k < 7
   within-seven counts k h = go (decLt k 7)
@@ -38,7 +38,7 @@ module _ (most : List ℕ) (m : length most ≡ 7) (s : ℕ) where
       go (yes j) = j
       go (no j) = absurd (omega (arith, List·getD-eq-default most 0 {n = k} (omega arith)))
 
-  line-counts : (counts : List ℕ) (ws : List Word) (x : meant.Line) → length counts ≡ 7 → getD counts s 0 ≤ getD most s 0 → WholeLine x
+  pub line-counts : (counts : List ℕ) (ws : List Word) (x : meant.Line) → length counts ≡ 7 → getD counts s 0 ≤ getD most s 0 → WholeLine x
       → isFault (lineFault most counts ws x .fault) ≡ false → Counted counts (counted most counts x) (numbersOf s x)
   unfolding lineFault counted isFault numbersOf WholeLine
   line-counts counts ws silent c h w e = record { long = c; few = h; size = omega arith }

@@ -1,2 +1,5 @@
+pub mod RightLaws
+pub mod PrintedLaws
 pub mod SaidLaws
+pub mod ReadLaws
 pub mod Texts

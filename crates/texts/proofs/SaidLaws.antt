@@ -20,7 +20,7 @@ use Rattle.table.proofs.AnswerLaws.{Writable, write-was}
 use Rattle.table.proofs.HeaderLaws.{five}
 use Rattle.notation.specs.Meant.{listIn}
 use Rattle.notation.specs.Printed.{recordIn}
-use Rattle.notation.specs.Back.{headerOf, Acceptable}
+use Rattle.notation.specs.Back.{headerOf, Acceptable, Printable}
 use Rattle.notation.proofs.BackLaws.{read-back}
 use Rattle.notation.proofs.AcceptedLaws.{accepted-printable}
 use Rattle.texts.specs.Texts.{listsBy, said, textFor, Said-back}
@@ -71,8 +71,11 @@ module _ (ls : Lists) (w : Writable ls) where
           let row = recordIn (listFor ls (suc s)) (suc s) i in
           rw version-same (fault-before kind row (length (layout kind) - listed (suc s)) (w .good s i (omega arith) h))
 
-  list-back : (s : ℕ) → s ≤ 5 → listIn (textFor ls) s ≡ listsBy ls s
-  list-back = read-back (listsBy ls) (accepted-printable (listsBy ls) acceptable)
+  pub printable : Printable (listsBy ls)
+  printable = accepted-printable (listsBy ls) acceptable
+
+  pub list-back : (s : ℕ) → s ≤ 5 → listIn (textFor ls) s ≡ listsBy ls s
+  list-back = read-back (listsBy ls) printable
 
   lists-back : said (textFor ls) ≡ ls
   unfolding said listsBy listFor

@@ -1,9 +1,10 @@
--- Tables as text, both ways: a table that is unpacked and printed is packed from that text to the same bytes, and a text that can be packed
--- says what its table unpacks to. Assumes nothing.
+-- Tables as text, both ways: a table that is unpacked and printed is packed from that text to the same bytes, a text that can be packed
+-- says what its table unpacks to, and what is printed is read without a mistake. Assumes nothing.
 use Prim.Native.Nat.{ℕ, zero, suc, _≤_}
 use mathlib.Core.List.{List}
 use mathlib.Core.Path.{_≡_}
-use lib.ListN.{length}
+use lib.ListN.{length, getD}
+use Rattle.base.specs.Tabulate.{tabulate}
 use Rattle.bits.specs.Bits.{Bytes}
 use Rattle.table.specs.Answers.{accepted}
 use Rattle.table.specs.Lists.{Lists, listFor, unpacked}
@@ -11,6 +12,9 @@ use Rattle.table.specs.Unpack.{Lengths, unpackAnswer}
 use Rattle.table.specs.Write.{writeAnswer, packed}
 use Rattle.notation.specs.Meant.{listIn}
 use Rattle.notation.specs.Printed.{printed}
+use Rattle.parser.specs.declared.mistakes.Fault.the-variants.{Nothing}
+use Rattle.parser.specs.declared.Parsed.{Parsed}
+use Rattle.parser.specs.Tables.{firstMistake, padded, ReadsTo}
 
 -- the list of a section, of section 0 the version and the delays
 unfoldable pub listsBy : Lists → ℕ → List ℕ
@@ -35,6 +39,34 @@ textFor ls = printed (listsBy ls)
 -- lists that the writer accepts are what the text printed for them says
 abbrev pub Said-back : Type 0
 Said-back = (ls : Lists) (room : ℕ) → writeAnswer ls room ≡ accepted → said (textFor ls) ≡ ls
+
+-- lent lists that are long enough for these
+unfoldable pub LongEnough : Lists → List ℕ → Type 0
+LongEnough ls rooms = (s : ℕ) → s ≤ 5 → length (listsBy ls s) ≤ getD rooms s 0
+
+-- what is printed for them is read without a mistake, into any lent lists that are long enough
+abbrev pub Printed-is-read : Type 0
+Printed-is-read =
+    (ls : Lists) (room : ℕ) → writeAnswer ls room ≡ accepted → (rooms : List ℕ) → LongEnough ls rooms
+    → firstMistake (textFor ls) rooms .fault ≡ Nothing
+
+-- lists that were read: no mistake, how long each is, and each as it is, with zeros behind
+pub record ListsRead (ls : Lists) (rooms : List ℕ) (r : Parsed) (header systems vls streams ports hops : List ℕ) : Type 0 where
+  pub mistake : r .mistake .fault ≡ Nothing
+  pub lengths : r .lengths ≡ tabulate (λ s. length (listsBy ls s)) 6
+  pub header-is : header ≡ padded (getD rooms 0 0) (ls .header)
+  pub systems-are : systems ≡ padded (getD rooms 1 0) (ls .systems)
+  pub vls-are : vls ≡ padded (getD rooms 2 0) (ls .vls)
+  pub streams-are : streams ≡ padded (getD rooms 3 0) (ls .streams)
+  pub ports-are : ports ≡ padded (getD rooms 4 0) (ls .ports)
+  pub hops-are : hops ≡ padded (getD rooms 5 0) (ls .hops)
+
+-- a routine that reads as `parser::read` does reads them back from what is printed for them
+abbrev pub Printed-read-back : Type 0
+Printed-read-back =
+    (ls : Lists) (room : ℕ) → writeAnswer ls room ≡ accepted → (rooms : List ℕ) → LongEnough ls rooms
+    → (r : Parsed) (header systems vls streams ports hops : List ℕ) → ReadsTo (textFor ls) rooms r header systems vls streams ports hops
+    → ListsRead ls rooms r header systems vls streams ports hops
 
 -- unpacked, printed, read and packed again, a table that the unpacker accepts is the same bytes; `Bytes bytes` as in the table's round trip
 abbrev pub Pack-after-unpack : Type 0
