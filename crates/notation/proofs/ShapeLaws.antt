@@ -14,7 +14,7 @@ use Rattle.notation.specs.Notation.{versionLine, lineFields}
 use Rattle.notation.specs.Steps.{fieldsOf}
 
 -- each section in its turn
-by-section : (P : ℕ → Type 0) → P 0 → P 1 → P 2 → P 3 → P 4 → P 5 → P 6 → ((s : ℕ) → P (suc (suc (suc (suc (suc (suc (suc s)))))))) → (s : ℕ) → P s
+pub by-section : (P : ℕ → Type 0) → P 0 → P 1 → P 2 → P 3 → P 4 → P 5 → P 6 → ((s : ℕ) → P (suc (suc (suc (suc (suc (suc (suc s)))))))) → (s : ℕ) → P s
 by-section P a b c d e f g h zero = a
 by-section P a b c d e f g h (suc zero) = b
 by-section P a b c d e f g h (suc (suc zero)) = c
@@ -38,6 +38,19 @@ pub fields-few : (s : ℕ) → fieldsOf s ≤ 11
 unfolding fieldsOf listed listedIn isPadding layoutIn header endSystem vl stream port hop
 fields-few = by-section (λ s. fieldsOf s ≤ 11) (omega arith) (omega arith) (omega arith) (omega arith) (omega arith) (omega arith) (omega arith)
     (λ s. omega (arith, none-past (suc (suc (suc (suc (suc (suc (suc s))))))) (omega arith)))
+
+pub fields-some : (s : ℕ) → s ≤ versionLine → 1 ≤ fieldsOf s
+unfolding fieldsOf listed listedIn isPadding layoutIn header endSystem vl stream port hop
+fields-some = by-section
+    (λ s. s ≤ versionLine → 1 ≤ fieldsOf s)
+    (λ h. omega arith)
+    (λ h. omega arith)
+    (λ h. omega arith)
+    (λ h. omega arith)
+    (λ h. omega arith)
+    (λ h. omega arith)
+    (λ h. omega arith)
+    (λ s h. absurd (omega arith))
 
 module _ (version k : ℕ) where
   pub shape-delay : (s : ℕ) → s ≡ 0 → k < fieldsOf s → getD (lineFields version s) k blank ≡ getD (layout 0) (k + 6) blank

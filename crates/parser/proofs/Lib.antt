@@ -5,4 +5,5 @@ pub mod FillLaws
 pub mod Unique
 pub mod MistakeLaws
 pub mod TallyLaws
+pub mod RightLaws
 pub mod ReadLaws

@@ -45,7 +45,7 @@ head-list room v (a ∷ b ∷ c ∷ d ∷ []) e h =
     (ap (λ (l : List ℕ). v ∷ a ∷ b ∷ c ∷ d ∷ l) (drop-zeros 5 room))
 head-list room v (a ∷ b ∷ c ∷ d ∷ x ∷ ns) e h = absurd (omega arith)
 
-seven : (rooms : List ℕ) → length (mostFor rooms) ≡ 7
+pub seven : (rooms : List ℕ) → length (mostFor rooms) ≡ 7
 unfolding mostFor
 seven rooms = refl
 

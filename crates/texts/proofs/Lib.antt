@@ -1,4 +1,3 @@
-pub mod RightLaws
 pub mod PrintedLaws
 pub mod SaidLaws
 pub mod ReadLaws

@@ -15,12 +15,14 @@ use Rattle.notation.specs.Meant.{lineSaid, sectionIn}
 use Rattle.notation.specs.Steps.{fieldsOf}
 use Rattle.notation.specs.Printed.{lineWords, recordIn, sectionLines, recordLines, tableLines, printed}
 use Rattle.notation.specs.Back.{Sayable, Printable}
+use Rattle.notation.proofs.ShapeLaws.{by-section, fields-some}
 use Rattle.notation.proofs.LineLaws.{line-back}
 use Rattle.notation.proofs.BackLaws.{version-sayable, version-said, table-said, lines-are}
 use Rattle.parser.specs.declared.mistakes.Fault.the-variants.{Nothing}
 use Rattle.parser.specs.Mistakes.{mistakeIn}
 use Rattle.parser.specs.Tables.{mostFor, firstMistake}
-use Rattle.texts.proofs.RightLaws.{Right, AllRight, fields-some, whole-below, Enough, no-mistake}
+use Rattle.parser.proofs.RightLaws.{Right, AllRight, whole-below, Enough, right-lines}
+use Rattle.parser.proofs.ReadLaws.{seven}
 
 -- ---- lines
 module _ (v : ℕ) where
@@ -43,10 +45,6 @@ module _ (v : ℕ) where
 record-fields : (s : ℕ) → 1 ≤ s → s ≤ 5 → fieldsOf s ≡ listed s
 unfolding fieldsOf
 record-fields s low high = rw (ne-eqb s 0 (λ e. omega (arith, e)), ne-eqb s 6 (λ e. omega (arith, e)))
-
-seven : (rooms : List ℕ) → length (mostFor rooms) ≡ 7
-unfolding mostFor
-seven rooms = refl
 
 module _ (lists : ℕ → List ℕ) (p : Printable lists) where
   abbrev version : ℕ
@@ -112,14 +110,16 @@ module _ (lists : ℕ → List ℕ) (p : Printable lists) where
 
     room-for : (s : ℕ) → s ≤ versionLine → length (sectionIn version s lines) ≤ getD (mostFor rooms) s 0 * fieldsOf s
     unfolding mostFor
-    room-for zero h = rw (le-leb 5 (getD rooms 0 0) (omega (arith, long 0 (omega arith), five))) delays-room
-    room-for (suc zero) h = record-room 1 (omega arith) (omega arith)
-    room-for (suc (suc zero)) h = record-room 2 (omega arith) (omega arith)
-    room-for (suc (suc (suc zero))) h = record-room 3 (omega arith) (omega arith)
-    room-for (suc (suc (suc (suc zero)))) h = record-room 4 (omega arith) (omega arith)
-    room-for (suc (suc (suc (suc (suc zero))))) h = record-room 5 (omega arith) (omega arith)
-    room-for (suc (suc (suc (suc (suc (suc zero)))))) h = omega (arith, version-many, fields-some 6 (omega arith))
-    room-for (suc (suc (suc (suc (suc (suc (suc s))))))) h = absurd (omega arith)
+    room-for = by-section
+        (λ s. s ≤ versionLine → length (sectionIn version s lines) ≤ getD (mostFor rooms) s 0 * fieldsOf s)
+        (λ h. rw (le-leb 5 (getD rooms 0 0) (omega (arith, long 0 (omega arith), five))) delays-room)
+        (λ h. record-room 1 (omega arith) (omega arith))
+        (λ h. record-room 2 (omega arith) (omega arith))
+        (λ h. record-room 3 (omega arith) (omega arith))
+        (λ h. record-room 4 (omega arith) (omega arith))
+        (λ h. record-room 5 (omega arith) (omega arith))
+        (λ h. omega (arith, version-many, fields-some 6 (omega arith)))
+        (λ s h. absurd (omega arith))
 
     none-yet : (s : ℕ) → s ≤ versionLine → getD {A = ℕ} (replicate 7 0) s 0 * fieldsOf s ≡ 0
     none-yet s h = ap (λ (k : ℕ). k * fieldsOf s) (getD-replicate 7 s 0 0 (omega arith)) ∙ zero-mul (fieldsOf s)
@@ -135,4 +135,4 @@ module _ (lists : ℕ → List ℕ) (p : Printable lists) where
     unfolding firstMistake mistakeIn
     printed-right =
         rw (lines-are lists p, version-said lists p)
-        (no-mistake version (mostFor rooms) (seven rooms) (printed lists) lines (replicate 7 0) 0 lines-right enough)
+        (right-lines version (mostFor rooms) (seven rooms) (printed lists) lines (replicate 7 0) 0 lines-right enough)

@@ -9,16 +9,14 @@ use native.Mathlib.Decide.{decLt}
 use native.Mathlib.Nat.{zero-mul, mul-le-mul-right}
 use borrow.Author.Tests.{lt-ltb, eq-eqb, ne-eqb}
 use lib.ListN.{length, getD, length-append}
-use Rattle.layout.specs.Layout.{layoutIn, header, endSystem, vl, stream, port, hop}
-use Rattle.layout.specs.Fields.{isPadding}
-use Rattle.layout.specs.Rows.{listed, listedIn}
 use Rattle.notation.specs.Notation.{Word, versionLine}
 use Rattle.notation.specs.Meant.{Line, numbers, wrong, silent, unknown, of, lineSaid, numbersOf, sectionIn}
 use Rattle.notation.specs.Steps.{fieldsOf}
+use Rattle.notation.proofs.ShapeLaws.{fields-some}
 use Rattle.notation.proofs.LinesLaws.{WholeLine, whole-line, section-none, section-next}
 use Rattle.parser.specs.declared.mistakes.Fault.the-variants.{Nothing}
 use Rattle.parser.specs.Mistakes.{lineFault, counted, isFault, ofNoLine, mistakeFrom}
 use Rattle.parser.proofs.TallyLaws.{Counted, line-counts}
 
 -- a line that says nothing, or all its numbers
 unfoldable pub Right : Line → Type 0
@@ -32,17 +30,6 @@ AllRight version [] = Unit
 AllRight version (l ∷ ls) = Right (lineSaid version l) × AllRight version ls
 
 -- ---- sizes
-pub fields-some : (s : ℕ) → s ≤ versionLine → 1 ≤ fieldsOf s
-unfolding fieldsOf listed listedIn isPadding layoutIn header endSystem vl stream port hop
-fields-some zero h = omega arith
-fields-some (suc zero) h = omega arith
-fields-some (suc (suc zero)) h = omega arith
-fields-some (suc (suc (suc zero))) h = omega arith
-fields-some (suc (suc (suc (suc zero)))) h = omega arith
-fields-some (suc (suc (suc (suc (suc zero))))) h = omega arith
-fields-some (suc (suc (suc (suc (suc (suc zero)))))) h = omega arith
-fields-some (suc (suc (suc (suc (suc (suc (suc s))))))) h = absurd (omega arith)
-
 pub whole-below : (a b f : ℕ) → a * f < b * f + f → a ≤ b
 whole-below a b f h = go (decLt b a)
   where
@@ -89,19 +76,19 @@ module _ (version : ℕ) (most : List ℕ) (m : length most ≡ 7) where
         made s h = line-counts most m s counts ws x (r .long) (few counts _ r s h) w (ap isFault (no-fault x a w r))
 
   -- ---- the lines
-  pub no-mistake : (text : List ℕ) (ls : List (List Word)) (counts : List ℕ) (i : ℕ) → AllRight version ls
+  pub right-lines : (text : List ℕ) (ls : List (List Word)) (counts : List ℕ) (i : ℕ) → AllRight version ls
       → Enough counts (λ s. length (sectionIn version s ls)) → mistakeFrom text version most counts i ls .fault ≡ Nothing
   unfolding mistakeFrom ofNoLine isFault AllRight
-  no-mistake text [] counts i a r = rw (ne-eqb (getD counts 0 0) 0 some-are)
+  right-lines text [] counts i a r = rw (ne-eqb (getD counts 0 0) 0 some-are)
     where
       some-are : getD counts 0 0 ≡ 0 → ⊥
       some-are e =
           let z : getD counts 0 0 * fieldsOf 0 ≡ 0 = ap (λ (k : ℕ). k * fieldsOf 0) e ∙ zero-mul (fieldsOf 0) in
           let n : length (sectionIn version 0 []) ≡ 0 = ap length (section-none version 0) in
           omega (arith, r .delays, z, n)
-  no-mistake text (ws ∷ ls) counts i (a, b) r =
+  right-lines text (ws ∷ ls) counts i (a, b) r =
       rw none-here
-      (no-mistake text ls (counted most counts (lineSaid version ws)) (suc i) b
+      (right-lines text ls (counted most counts (lineSaid version ws)) (suc i) b
       (enough-next counts (λ s. length (sectionIn version s ls)) ws (lineSaid version ws) a (whole-line version ws) now))
     where
       more : (s : ℕ) → length (sectionIn version s (ws ∷ ls)) ≡ length (numbersOf s (lineSaid version ws)) + length (sectionIn version s ls)
