@@ -1,6 +1,7 @@
--- Lines that all say their numbers, no more than there may be, have no mistake.
+-- Lines that all say their numbers, no more than there may be, and some of the delays, have no mistake. Counted by their numbers: a line
+-- has as many as its section has fields, so it is enough to know how many each section says.
 -- Assumes nothing.
-use Prim.Native.Nat.{ℕ, zero, suc, _+_, _*_, _≤_, _<_}
+use Prim.Native.Nat.{ℕ, suc, _+_, _*_, _≤_, _<_}
 use mathlib.Core.Path.{_≡_, refl, ap, _∙_}
 use mathlib.Core.Bool.{false}
 use mathlib.Core.List.{List, [], _∷_}
@@ -30,6 +31,7 @@ AllRight version [] = Unit
 AllRight version (l ∷ ls) = Right (lineSaid version l) × AllRight version ls
 
 -- ---- sizes
+-- fewer than one more, in pieces of the same size
 pub whole-below : (a b f : ℕ) → a * f < b * f + f → a ≤ b
 whole-below a b f h = go (decLt b a)
   where
