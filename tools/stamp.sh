@@ -1,8 +1,15 @@
-# What program is in use: read by ../avulgjesh. The program is proved and built by rt; a stamp beside it says from what, and each run
+# What program is in use: read by ../avulgjesh. A program is proved and built by rt; a stamp beside it says from what, and each run
 # compares: the program's SHA-256, the sources' hash and the toolchain. The commit is named if the sources are the commit's.
 
-program=$home/target/bin/latency
-stamp=$home/target/bin/latency.stamp
+# Each verb that answers has its program; that of the records is latency.
+PROGRAMS='latency unpack pack'
+choose() { # NAME: the program that is looked at, built and stamped from here on
+    named=$1
+    program=$home/target/bin/$1
+    stamp=$home/target/bin/$1.stamp
+    ready=no
+}
+choose latency
 
 # The sources: crates.txt, every .rt file of a crate's src and every .antt file of its specs and proofs, by path and content. Tables, notes,
 # must-fail edits and the runs' stdin and stdout are no part: they try the program and do not make it.
@@ -76,7 +83,7 @@ stamped() { # SOURCES COMMIT TOOLCHAIN
 
 # How many crates the program stands on, itself among them.
 crates_reached() {
-    awk '
+    awk -v named="$named" '
         { sub(/#.*/, ""); i = index($0, ":") }
         i { name = substr($0, 1, i - 1); gsub(/[ \t]/, "", name); deps[name] = substr($0, i + 1) }
         function visit(name,    d, k, n) {
@@ -86,7 +93,7 @@ crates_reached() {
             n = split(deps[name], d, " ")
             for (k = 1; k <= n; k++) visit(d[k])
         }
-        END { visit("latency"); print count + 0 }' "$home/crates.txt"
+        END { visit(named); print count + 0 }' "$home/crates.txt"
 }
 
 # One build at a time: the link target/building leads to the number of the process that builds.
@@ -111,14 +118,14 @@ locked() {
 build() {
     [ -n "$toolchain" ] || die 3 "the program cannot be proved and built, since rt is not on the path or does not answer: $differs"
     commit_now
-    log=$home/target/latency.log
+    log=$home/target/$named.log
     total=$(crates_reached)
-    say "proving and building the program ($differs): $total crates, some minutes"
+    say "proving and building the program $named ($differs): $total crates, some minutes"
     # A program or a note of rt that is there already would be taken for what is built now.
-    rm -f -- "$program" "$stamp" "$home/target/stamp/latency"
+    rm -f -- "$program" "$stamp" "$home/target/stamp/$named"
     noted_sources=$sources noted_commit=$commit noted_toolchain=$toolchain
     {
-        (cd "$home" && rt check latency) </dev/null 2>&1
+        (cd "$home" && rt check "$named") </dev/null 2>&1
         echo $? >"$work/built"
     } | {
         proved=0
@@ -139,7 +146,6 @@ build() {
 }
 
 # The program is there, and is the one of its stamp. Without rt the toolchain is not looked at.
-ready=no
 program_ready() {
     [ "$ready" = no ] || return 0
     if ! look; then
@@ -153,7 +159,7 @@ program_ready() {
     ready=yes
 }
 
-# For test.sh: without an argument prints what is noted before the proof; with it, stamps what was built from that.
+# For test.sh: without an argument prints what is noted before the proof; with it, stamps the programs that were built from that.
 stamp() {
     if [ $# -eq 0 ]; then
         sources_now
@@ -164,6 +170,11 @@ stamp() {
     else
         mkdir -p -- "$home/target/bin"
         rest=${1#* }
-        stamped "${1%% *}" "${rest%% *}" "${rest#* }"
+        for name in $PROGRAMS; do
+            choose "$name"
+            [ ! -x "$program" ] || stamped "${1%% *}" "${rest%% *}" "${rest#* }"
+        done
+        choose latency
+        [ -x "$program" ] || die 3 "rt built no $program"
     fi
 }

@@ -89,7 +89,7 @@ test_program_stops_at_the_first_write_that_fails() {
         for (v = 1; v < 5; v++) print "stream " v " 0 queuing 17 17 12500 0"
         for (p = 0; p < 128; p++) print "port 100 0 0"
         for (v = 0; v < 5; v++) for (p = 0; p < 128; p++) print "hop " v " " p " none"
-    }' | "$examples/pack" >uneven.tbl
+    }' | "$root/tools/built" pack >uneven.tbl
     "$root/tools/built" latency <uneven.tbl >all
     [ "$(wc -l <all)" -eq 769 ] || no "the table has not 768 rows: $(head -n 1 all)"
     printf 'latency: the answer could not be written whole\n' >wanted

@@ -6,7 +6,6 @@ scratch() { # makes ./house with its first commit, and puts the pretending rt on
     mkdir -p house/crates/latency/src house/crates/base/specs house/tools house/examples pretend
     cp "$root/avulgjesh" house/
     cp "$root"/tools/* house/tools/
-    cp "$examples/pack" house/examples/
     printf 'target\n' >house/.gitignore
     printf 'base:\nlatency: base io libc\n' >house/crates.txt
     printf 'fn main() {}\n' >house/crates/latency/src/main.rt

@@ -96,11 +96,77 @@ test_pack_packs() {
     "$front" pack - <"$examples/whole-case.txt" | cmp -s - "$examples/whole-case.tbl" || no "not from -"
 }
 
+# ---- unpack
+test_every_example_goes_to_text_and_back() {
+    for text in "$examples"/*.txt; do
+        table=${text%.txt}.tbl
+        gives 0 pack "$text"
+        same out "$table" "the table of ${text##*/}"
+        gives 0 unpack "$table"
+        quiet
+        cp out again.txt
+        gives 0 pack again.txt
+        same out "$table" "the table of the text of ${table##*/}"
+        gives 0 unpack "$table"
+        same out again.txt "the text of ${table##*/}"
+    done
+    sed 's/$/\r/' "$examples/whole-case.txt" >crlf.txt
+    gives 0 pack crlf.txt
+    same out "$examples/whole-case.tbl" "the table of lines with CR LF"
+}
+
+test_unpack_has_a_line_for_each_record() {
+    gives 0 unpack "$examples/whole-case.tbl"
+    cat >wanted <<'END'
+version 1
+delays 500 1000 500 500
+system 100
+vl 0 1 1 1518
+vl 0 2 1 516
+stream 0 0 queuing 2000 1000 250000 0
+stream 1 0 sampling 469 10 500000 1000
+port 100 875 1250
+hop 0 0 none
+hop 1 0 none
+END
+    same out wanted
+    "$front" unpack - <"$examples/whole-case.tbl" | cmp -s - wanted || no "not from -"
+}
+
+test_unpack_of_a_refused_table_is_its_refusal() {
+    head -c 13 "$examples/whole-case.tbl" >short.tbl
+    gives 1 unpack short.tbl
+    printf 'refused 1 0 0\n' >wanted
+    same out wanted
+    gives 2 unpack nosuch.tbl
+    silent
+    gives 2 unpack
+    gives 2 unpack "$examples/whole-case.tbl" "$examples/empty.tbl"
+    sentence '^usage: '
+    status=0
+    "$front" unpack "$examples/whole-case.tbl" >/dev/full 2>err || status=$?
+    [ "$status" -eq 2 ] || no "status $status, not 2, on a full disk"
+}
+
 test_pack_says_what_is_wrong() {
     printf 'delays 1 2 3\n' >bad.txt
     gives 1 pack bad.txt
     silent
-    sentence 'line 1'
+    sentence '^pack: line 1: receive delay greatest is missing$'
+    sed 's/^vl /vlan /' "$examples/whole-case.txt" >bad.txt
+    gives 1 pack bad.txt
+    silent
+    sentence '^pack: line 10: a line begins with delays, system, vl, stream, port, hop or version, not "vlan"$'
+    sed 's/250000/12499/' "$examples/whole-case.txt" >bad.txt
+    gives 1 pack bad.txt
+    silent
+    sentence '^pack: line 14: period is 12500 to 125000000, not as given$'
+    gives 1 pack "$examples/whole-case.tbl"
+    silent
+    awk 'BEGIN { for (i = 0; i < 262144; i++) printf "#"; print "" }' >long.txt
+    gives 1 pack long.txt
+    silent
+    sentence 'longer than 262144 bytes'
     gives 2 pack nosuch.txt
     silent
     status=0
