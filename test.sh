@@ -34,8 +34,8 @@ cargo build --release --offline --quiet --manifest-path tests/held/Cargo.toml
 held=$CARGO_TARGET_DIR/release/held
 "$held" check
 "$held" simulate 1 500
-{ "$held" wrap examples/*.tbl && "$held" items 1 1500; } | cmp - crates/items/stdin
-"$held" answers <crates/items/stdin | cmp - crates/items/stdout
+{ "$held" wrap examples/*.tbl && "$held" items 1 1500; } | cmp - crates/run_items/stdin
+"$held" answers <crates/run_items/stdin | cmp - crates/run_items/stdout
 examples/check "$held" rows
 examples/supplier/run
 tests/command/run

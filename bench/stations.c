@@ -1,4 +1,4 @@
-/* The twin in C of the program crates/stations: the same stations in the same order, and the same lines. Each is searched
+/* The twin in C of the program crates/run_stations: the same stations in the same order, and the same lines. Each is searched
    twice, as there by both doors of the station.
    Those of stations.h that run for seconds are left out there and here. With -DCOUNT a last line has the counts. */
 #include "stations.h"

@@ -1,4 +1,4 @@
-/* The stations whose passes are counted. Whole numbers only, and the same formulas as in crates/stations. */
+/* The stations whose passes are counted. Whole numbers only, and the same formulas as in crates/run_stations. */
 #ifndef STATIONS_H
 #define STATIONS_H
 
