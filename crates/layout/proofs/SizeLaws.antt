@@ -1,11 +1,11 @@
--- The sizes of `layout::sizes` are those that the definitions say by the section: computed once, here. Limits and places stand as numerals in no other law.
+-- The sizes of `layout::sizes` are those that the definitions say by the section: computed once, here, from the limits in force, which stand as numerals in no law.
 -- Assumes nothing.
-use Prim.Native.Nat.{ℕ, zero, suc, _≤_}
+use Prim.Native.Nat.{ℕ, zero, suc, _+_, _*_, _≤_}
 use mathlib.Core.Path.{_≡_, refl}
 use native.Mathlib.Decide.{decLt}
 use native.Mathlib.Omega.{arith}
 use Rattle.base.specs.Tabulate.{total}
-use Rattle.layout.specs.Limits.{mostIn, most}
+use Rattle.layout.specs.Limits.{limits, mostIn, most}
 use Rattle.layout.specs.Fields.{isPadding}
 use Rattle.layout.specs.declared.Name.the-variants as name
 use Rattle.layout.specs.Names.{numberOf, indexIn}
@@ -14,11 +14,11 @@ use Rattle.layout.specs.Rows.{listedIn, listed}
 use Rattle.layout.specs.Sizes.{capacity, place, mostBytes}
 
 pub record Most : Type 0 where
-  pub systems : most 1 ≡ 64
-  pub vls : most 2 ≡ 256
-  pub streams : most 3 ≡ 512
-  pub ports : most 4 ≡ 128
-  pub hops : most 5 ≡ 1024
+  pub systems : most 1 ≡ limits .systems
+  pub vls : most 2 ≡ limits .vls
+  pub streams : most 3 ≡ limits .streams
+  pub ports : most 4 ≡ limits .ports
+  pub hops : most 5 ≡ limits .hops
 
 pub most-are : Most
 unfolding mostIn
@@ -26,11 +26,11 @@ most-are = record { systems = refl; vls = refl; streams = refl; ports = refl; ho
 
 pub record Places : Type 0 where
   pub systems : place 1 ≡ 10
-  pub vls : place 2 ≡ 74
-  pub streams : place 3 ≡ 1098
-  pub ports : place 4 ≡ 4682
-  pub hops : place 5 ≡ 5066
-  pub end : place 6 ≡ 8138
+  pub vls : place 2 ≡ 10 + limits .systems
+  pub streams : place 3 ≡ 10 + limits .systems + limits .vls * 4
+  pub ports : place 4 ≡ 10 + limits .systems + limits .vls * 4 + limits .streams * 7
+  pub hops : place 5 ≡ 10 + limits .systems + limits .vls * 4 + limits .streams * 7 + limits .ports * 3
+  pub end : place 6 ≡ 10 + limits .systems + limits .vls * 4 + limits .streams * 7 + limits .ports * 3 + limits .hops * 3
 
 pub places-are : Places
 unfolding place capacity mostIn listed listedIn isPadding layoutIn header endSystem vl stream port hop
@@ -46,7 +46,7 @@ place-le s (suc t) h = elim (decLt s (suc t)) [
 ]
 
 -- the longest table
-pub longest-table : mostBytes 5 ≡ 12110
+pub longest-table : mostBytes 5 ≡ 14 + limits .systems + limits .vls * 3 + limits .streams * 13 + limits .ports * 4 + limits .hops * 4
 unfolding mostBytes mostIn size widths layoutIn header endSystem vl stream port hop total
 longest-table = refl
 

@@ -1,5 +1,6 @@
 // Fills a sheet from a table that 1 to 4 are not given to: the header's numbers and the counts, and each section's records at their place.
 // A part of the sheet is lent to the unpacker at a time, so that no list stands anywhere else.
+use layout::places;
 use layout::sizes;
 ghost use mathlib.Core.List.{_++_};
 ghost use mathlib.Core.Path.{_≡_};
@@ -30,11 +31,11 @@ fn head_of(table: &[u8]) -> [u64; sizes::HEAD]
     let h = unpacker::header_list(table);
     let n = unpacker::counts_of(table);
     [
-        h[0],
-        h[1],
-        h[2],
-        h[3],
-        h[4],
+        h[places::LIST_VERSION],
+        h[places::LIST_SEND_LEAST],
+        h[places::LIST_SEND_GREATEST],
+        h[places::LIST_RECEIVE_LEAST],
+        h[places::LIST_RECEIVE_GREATEST],
         n[1] as u64,
         n[2] as u64,
         n[3] as u64,

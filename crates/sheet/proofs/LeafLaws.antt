@@ -10,13 +10,14 @@ use native.Mathlib.Decide.{ℕ-discrete}
 use native.Mathlib.Nat.{eq-or-lt-of-le}
 use native.Mathlib.Omega.{arith}
 use borrow.Author.Tests.{eq-eqb, ne-eqb}
-use lib.ListN.{length, getD, set, replicate, getD-replicate, length-set}
+use lib.ListN.{length, getD, set, replicate, length-replicate, getD-replicate, length-set}
 use lib.Seq.{getD-set-same, getD-set-other}
 use Rattle.base.specs.Least.{leastFrom}
 use Rattle.base.specs.Tests.{isSome}
 use Rattle.base.proofs.LeastLaws.{least-is, least-none, least-was, none-was, least-exists}
 use Rattle.base.proofs.TabulateLaws.{tabulate-at, tabulate-same, tabulate-rows}
 use Rattle.base.proofs.TestLaws.{some-is}
+use Rattle.layout.specs.Limits.{limits}
 use Rattle.layout.proofs.SizeLaws.{most-are}
 use Rattle.network.specs.declared.Hop.{Hop}
 use Rattle.network.specs.declared.Parent.{Parent}
@@ -55,16 +56,16 @@ module _ (net : Network) where
   isParentBelow n h = isSome (leastFrom (λ g. isParent h (parentAt net g)) 0 n)
 
   pub record LeavesTo (n : ℕ) (leaves : List Bool) : Type 0 where
-    pub long : length leaves ≡ 1024
-    pub leaf-is : (h : ℕ) → h < 1024 → getD leaves h false ≡ not (isParentBelow n h)
+    pub long : length leaves ≡ limits .hops
+    pub leaf-is : (h : ℕ) → h < limits .hops → getD leaves h false ≡ not (isParentBelow n h)
 
-  pub leaves-start : LeavesTo 0 (replicate 1024 true)
+  pub leaves-start : LeavesTo 0 (replicate (limits .hops) true)
   unfolding leastFrom isSome
-  leaves-start = record { long = refl; leaf-is = λ h l. getD-replicate 1024 h true false l }
+  leaves-start = record { long = length-replicate (limits .hops) true; leaf-is = λ h l. getD-replicate (limits .hops) h true false l }
 
   module _ (n : ℕ) (leaves : List Bool) (so-far : LeavesTo n leaves) where
     -- nothing changes where hop n's parent is none of the rows that are noted
-    same-leaves : ((h : ℕ) → h < 1024 → isParent h (parentAt net n) ≡ false) → LeavesTo (n + 1) leaves
+    same-leaves : ((h : ℕ) → h < limits .hops → isParent h (parentAt net n) ≡ false) → LeavesTo (n + 1) leaves
     same-leaves miss = record {
       long = so-far .long;
       leaf-is = λ h l.
@@ -77,11 +78,11 @@ module _ (net : Network) where
     leaves-at-root e = same-leaves (λ h l. ap (isParent h) e)
 
     module _ (g : ℕ) (e : parentAt net n ≡ some g) where
-      pub leaves-at-far : 1024 ≤ g → LeavesTo (n + 1) leaves
+      pub leaves-at-far : limits .hops ≤ g → LeavesTo (n + 1) leaves
       unfolding isParent
       leaves-at-far far = same-leaves (λ h l. ap (isParent h) e ∙ ne-eqb g h (λ s. omega arith))
 
-      pub leaves-at-child : g < 1024 → LeavesTo (n + 1) (set leaves g false)
+      pub leaves-at-child : g < limits .hops → LeavesTo (n + 1) (set leaves g false)
       unfolding isParent
       leaves-at-child inside = record {
         long = length-set leaves g false ∙ so-far .long;
@@ -103,11 +104,11 @@ pub leaves-all : (sheet : List ℕ) (n : ℕ) (leaves : List Bool) → n ≡ len
 unfolding leavesOn leaf
 leaves-all sheet n leaves e all =
     sym (tabulate-rows leaves false)
-    ∙ rw (all .long, most-are .hops) (tabulate-same (λ h. getD leaves h false) (leaf (networkOn sheet)) 1024
+    ∙ rw (all .long, most-are .hops) (tabulate-same (λ h. getD leaves h false) (leaf (networkOn sheet)) (limits .hops)
     (λ h l. all .leaf-is h l ∙ ap (λ (m : ℕ). not (isParentBelow (networkOn sheet) m h)) e))
 
 -- a leaf as it is read
-pub leaf-read : (sheet : List ℕ) (leaves : List Bool) (h : ℕ) → leaves ≡ leavesOn sheet → h < 1024 → getD leaves h false ≡ leaf (networkOn sheet) h
+pub leaf-read : (sheet : List ℕ) (leaves : List Bool) (h : ℕ) → leaves ≡ leavesOn sheet → h < limits .hops → getD leaves h false ≡ leaf (networkOn sheet) h
 unfolding leavesOn
 leaf-read sheet leaves h e l =
     ap (λ (ls : List Bool). getD ls h false) e ∙ tabulate-at (leaf (networkOn sheet)) _ h false (rw (most-are .hops) l)

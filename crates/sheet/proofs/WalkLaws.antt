@@ -10,7 +10,7 @@ use lib.ListN.{length, getD}
 use Rattle.base.specs.Pick.{pick}
 use Rattle.base.specs.Tabulate.{tabulate}
 use Rattle.base.proofs.TabulateLaws.{length-tabulate, tabulate-at}
-use Rattle.layout.specs.Limits.{most}
+use Rattle.layout.specs.Limits.{limits, most}
 use Rattle.layout.proofs.SizeLaws.{most-are}
 use Rattle.network.specs.Network.{noStream, noHop, streamAt, hopAt}
 use Rattle.sheet.specs.Sheet.{countOn, streamOn, hopOn, networkOn}
@@ -32,18 +32,18 @@ module _ (sheet : List ℕ) where
   hop-row h l = row-there (hopOn sheet) noHop (countOn sheet 5) (most 5) h (omega arith) l
 
   -- ---- as it is read
-  pub stream-row-past : (s : ℕ) → 512 ≤ s → noStream ≡ streamRow sheet s
+  pub stream-row-past : (s : ℕ) → limits .streams ≤ s → noStream ≡ streamRow sheet s
   unfolding streamRow
-  stream-row-past s h = rw (most-are .streams, le-ltb s 512 h)
+  stream-row-past s h = rw (most-are .streams, le-ltb s (limits .streams) h)
 
-  pub stream-row-is : (s : ℕ) → s < 512 → streamOn sheet s ≡ streamRow sheet s
+  pub stream-row-is : (s : ℕ) → s < limits .streams → streamOn sheet s ≡ streamRow sheet s
   unfolding streamRow
-  stream-row-is s h = rw (most-are .streams, lt-ltb s 512 h)
+  stream-row-is s h = rw (most-are .streams, lt-ltb s (limits .streams) h)
 
-  pub hop-row-past : (h : ℕ) → 1024 ≤ h → noHop ≡ hopRow sheet h
+  pub hop-row-past : (h : ℕ) → limits .hops ≤ h → noHop ≡ hopRow sheet h
   unfolding hopRow
-  hop-row-past h l = rw (most-are .hops, le-ltb h 1024 l)
+  hop-row-past h l = rw (most-are .hops, le-ltb h (limits .hops) l)
 
-  pub hop-row-is : (h : ℕ) → h < 1024 → hopOn sheet h ≡ hopRow sheet h
+  pub hop-row-is : (h : ℕ) → h < limits .hops → hopOn sheet h ≡ hopRow sheet h
   unfolding hopRow
-  hop-row-is h l = rw (most-are .hops, lt-ltb h 1024 l)
+  hop-row-is h l = rw (most-are .hops, lt-ltb h (limits .hops) l)

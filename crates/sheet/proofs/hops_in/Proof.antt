@@ -1,4 +1,4 @@
--- `sheet::hops_in` meets its contract: as many hops as the sheet says, and at most 1,024.
+-- `sheet::hops_in` meets its contract: as many hops as the sheet says, and no more than it has room for.
 -- Assumes nothing.
 use Rattle.sheet.proofs.SheetLaws.{hops-on}
 use borrow.Author.Needs.{needs}

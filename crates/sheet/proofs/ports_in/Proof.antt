@@ -1,4 +1,4 @@
--- `sheet::ports_in` meets its contract: as many ports as the sheet says, and at most 128.
+-- `sheet::ports_in` meets its contract: as many ports as the sheet says, and no more than it has room for.
 -- Assumes nothing.
 use Rattle.sheet.proofs.SheetLaws.{ports-on}
 use borrow.Author.Needs.{needs}

@@ -1,4 +1,4 @@
--- `sheet::streams_in` meets its contract: as many streams as the sheet says, and at most 512.
+-- `sheet::streams_in` meets its contract: as many streams as the sheet says, and no more than it has room for.
 -- Assumes nothing.
 use Rattle.sheet.proofs.SheetLaws.{streams-on}
 use borrow.Author.Needs.{needs}

@@ -1,4 +1,4 @@
--- `sheet::systems_in` meets its contract: as many end systems as the sheet says, and at most 64.
+-- `sheet::systems_in` meets its contract: as many end systems as the sheet says, and no more than it has room for.
 -- Assumes nothing.
 use Rattle.sheet.proofs.SheetLaws.{systems-on}
 use borrow.Author.Needs.{needs}

@@ -1,4 +1,4 @@
--- `sheet::vls_in` meets its contract: as many VLs as the sheet says, and at most 256.
+-- `sheet::vls_in` meets its contract: as many VLs as the sheet says, and no more than it has room for.
 -- Assumes nothing.
 use Rattle.sheet.proofs.SheetLaws.{vls-on}
 use borrow.Author.Needs.{needs}
