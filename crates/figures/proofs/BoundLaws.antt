@@ -24,7 +24,7 @@ use Rattle.network.specs.ReferenceFacts.{References}
 use Rattle.network.specs.Views.{hopsOn, streamsOn}
 use Rattle.network.specs.References.{routeLonger}
 use Rattle.network.specs.Ranges.{Ranges, VlRange, SpeedRange}
-use Rattle.network.proofs.PortLaws.{on-port, no-more-than-hops}
+use Rattle.network.proofs.PortLaws.{on-port, few-hops-on-a-port}
 use Rattle.network.proofs.RouteLaws.{child-longer}
 use Rattle.station.specs.Station.{Flow, busyLengthTo, figure}
 use Rattle.station.specs.Offered.{mostFlows, allInRange, offered}
@@ -42,9 +42,9 @@ use Rattle.figures.proofs.GivenLaws.{packets-bounds}
 
 -- ---- any flows
 -- the station takes a list that is short enough, of flows in range
-taken : (f : ℕ → Flow) (l : List ℕ) → length l ≤ 1024 → ((i : ℕ) → List·Memᴰ i l → InRange (f i)) → offered (map f l) ≡ true
-unfolding offered mostFlows
-taken f l few all = rw (le-leb (length (map f l)) 1024 (omega (arith, length-map l f)), map-in-range f l all)
+taken : (f : ℕ → Flow) (l : List ℕ) → length l ≤ mostFlows → ((i : ℕ) → List·Memᴰ i l → InRange (f i)) → offered (map f l) ≡ true
+unfolding offered
+taken f l few all = rw (le-leb (length (map f l)) mostFlows (omega (arith, length-map l f)), map-in-range f l all)
 
 -- a figure is at most the busy length, and 0 where there is none
 figure-limit : (lim : ℕ) (fs : List Flow) → Periodic fs → figure fs (numberOr0 (busyLengthTo lim fs)) ≤ lim
@@ -94,7 +94,7 @@ module _ (net : Network) (ranges : Ranges net) (refs : References net) where
   sum-without-bound e but n l =
       passing-most (sendMost net) (counts net e but) n 15380 (λ v h. send-most-bound v (omega arith))
 
-  pub mux-wait-bound : (v : ℕ) → muxWait net v ≤ 3937280
+  pub mux-wait-bound : (v : ℕ) → muxWait net v ≤ 4095 * 15380
   mux-wait-bound v =
       omega (arith, mux-wait-is net v, sum-without-bound (vlAt net v .system) v (length (net .vls)) (omega arith), ranges .few-vls)
 
@@ -124,7 +124,7 @@ module _ (net : Network) (ranges : Ranges net) (refs : References net) where
       }
 
   pub queue-offered : (v k : ℕ) → offered (queueFlows net v k) ≡ true
-  unfolding queueFlows streamsOn
+  unfolding queueFlows streamsOn mostFlows
   queue-offered v k =
       taken (queueFlow net) (streamsOn net v k)
       (omega (arith, length-passing (λ s. eqb (streamAt net s .vl) v && eqb (streamAt net s .sublink) k) (length (net .streams)), ranges .few-streams))
@@ -148,13 +148,13 @@ module _ (net : Network) (ranges : Ranges net) (refs : References net) where
   hop-figure-bound h l = rw (figure-of-port net h) (port-figure-bound (jitterOf net) (hopAt net h .port))
 
   -- a root's jitter, and what each hop behind it adds at most
-  jitter-by-route : (n h : ℕ) → h < length (net .hops) → routeLonger net n h ≡ false → jitterOf net h ≤ 3955000 + n * 125001250
+  jitter-by-route : (n h : ℕ) → h < length (net .hops) → routeLonger net n h ≡ false → jitterOf net h ≤ 63000000 + n * 125001250
   unfolding routeLonger
   jitter-by-route zero h l e = absurd (true≢false e)
   jitter-by-route (suc n) h l e = go (λ g. jitter-by-route n g) (parentAt net h) refl
     where
-      go : ((g : ℕ) → g < length (net .hops) → routeLonger net n g ≡ false → jitterOf net g ≤ 3955000 + n * 125001250)
-          → (o : Option ℕ) → parentAt net h ≡ o → jitterOf net h ≤ 3955000 + suc n * 125001250
+      go : ((g : ℕ) → g < length (net .hops) → routeLonger net n g ≡ false → jitterOf net g ≤ 63000000 + n * 125001250)
+          → (o : Option ℕ) → parentAt net h ≡ o → jitterOf net h ≤ 63000000 + suc n * 125001250
       go ih none k =
           omega (arith, figures-of net refs .root-is h l k, root-jitter-is net h, mux-wait-bound (hopAt net h .vl), send-spread-bound (hopAt net h .vl) (refs .hop-vl h l), hop-spread-bound h l)
       go ih (some g) k =
@@ -172,9 +172,9 @@ module _ (net : Network) (ranges : Ranges net) (refs : References net) where
   jitter-bound h l = omega (arith, jitter-by-route 8 h l (refs .not-deep h l))
 
   pub port-offered : (p : ℕ) → offered (portFlows net (jitterOf net) p) ≡ true
-  unfolding portFlows hopFlow
+  unfolding portFlows hopFlow mostFlows
   port-offered p =
-      taken (hopFlow net (jitterOf net)) (hopsOn net p) (omega (arith, no-more-than-hops net p, ranges .few-hops))
+      taken (hopFlow net (jitterOf net)) (hopsOn net p) (omega (arith, few-hops-on-a-port net refs p, ranges .few-vls))
       (λ h m.
       let row = on-port net p h m .0 in
       let gap = gap-of-hop h row in

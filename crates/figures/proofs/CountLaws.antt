@@ -13,6 +13,7 @@ use lib.ListN.{length, getD, set, length-append, length-map, length-set}
 use lib.Seq.{getD-set-same, getD-set-other}
 use Rattle.base.specs.Tabulate.{tabulate, passing}
 use Rattle.base.proofs.TabulateLaws.{length-passing, passing-hit, passing-miss, tabulate-same, tabulate-rows}
+use Rattle.layout.specs.Limits.{limits}
 use Rattle.network.specs.Network.{Network, streamAt, hopAt}
 use Rattle.network.specs.Views.{leaf, leavesOf}
 use Rattle.rows.specs.Rows.{rowOf, rowsTo}
@@ -43,21 +44,21 @@ module _ (net : Network) where
 
   -- ---- the count of each VL's
   pub record CountsTo (n : ℕ) (counts : List ℕ) : Type 0 where
-    pub long : length counts ≡ 256
-    pub count-is : (v : ℕ) → v < 256 → getD counts v 0 ≡ length (leavesTo v n)
+    pub long : length counts ≡ limits .vls
+    pub count-is : (v : ℕ) → v < limits .vls → getD counts v 0 ≡ length (leavesTo v n)
 
-  pub counts-none : (counts : List ℕ) → length counts ≡ 256 → ((v : ℕ) → getD counts v 0 ≡ 0) → CountsTo 0 counts
+  pub counts-none : (counts : List ℕ) → length counts ≡ limits .vls → ((v : ℕ) → getD counts v 0 ≡ 0) → CountsTo 0 counts
   unfolding passing
   counts-none counts long zero = record { long = long; count-is = λ v l. zero v }
 
   module _ (n : ℕ) (counts : List ℕ) (so-far : CountsTo n counts) where
-    pub count-bound : (v : ℕ) → v < 256 → getD counts v 0 ≤ n
+    pub count-bound : (v : ℕ) → v < limits .vls → getD counts v 0 ≤ n
     count-bound v l = omega (arith, so-far .count-is v l, length-passing (isDestination v) n)
 
     pub counts-inner : leaf net n ≡ false → CountsTo (n + 1) counts
     counts-inner t = record { long = so-far .long; count-is = λ v l. so-far .count-is v l ∙ ap length (sym (leaves-to-inner v n t)) }
 
-    pub counts-more : (v : ℕ) → v ≡ hopAt net n .vl → v < 256 → leaf net n ≡ true → CountsTo (n + 1) (set counts v (getD counts v 0 + 1))
+    pub counts-more : (v : ℕ) → v ≡ hopAt net n .vl → v < limits .vls → leaf net n ≡ true → CountsTo (n + 1) (set counts v (getD counts v 0 + 1))
     counts-more v e l t = record {
       long = length-set counts v (getD counts v 0 + 1) ∙ so-far .long;
       count-is = λ u k. elim (ℕ-discrete u v) [
@@ -75,10 +76,10 @@ module _ (net : Network) where
       ];
     }
 
-  pub counts-all : (n : ℕ) (counts : List ℕ) → n ≡ length (net .hops) → CountsTo n counts → counts ≡ tabulate (λ v. length (leavesOf net v)) 256
+  pub counts-all : (n : ℕ) (counts : List ℕ) → n ≡ length (net .hops) → CountsTo n counts → counts ≡ tabulate (λ v. length (leavesOf net v)) (limits .vls)
   counts-all n counts e all =
       sym (tabulate-rows counts 0)
-      ∙ rw (all .long) (tabulate-same (λ v. getD counts v 0) (λ v. length (leavesOf net v)) 256 (λ v l. all .count-is v l ∙ ap length (leaves-of-all v n e)))
+      ∙ rw (all .long) (tabulate-same (λ v. getD counts v 0) (λ v. length (leavesOf net v)) (limits .vls) (λ v l. all .count-is v l ∙ ap length (leaves-of-all v n e)))
 
   pub few-leaves : (v : ℕ) → length (leavesOf net v) ≤ length (net .hops)
   unfolding leavesOf

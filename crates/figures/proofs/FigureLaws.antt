@@ -9,10 +9,9 @@ use native.Mathlib.Omega.{arith}
 use borrow.Author.Count.{below-more}
 use lib.ListN.{length, replicate}
 use Rattle.frame.specs.Tick.{inForce}
+use Rattle.layout.specs.Limits.{limits}
 use Rattle.network.specs.Network.{Network}
 use Rattle.network.specs.ReferenceFacts.{References}
-use Rattle.network.specs.Ranges.{Ranges}
-use Rattle.station.specs.Offered.{offered}
 use Rattle.station.specs.Flat.{flowsIn}
 use Rattle.rows.specs.Ports.{portFlows, portFigure, jitterOf, figureOf}
 use Rattle.rows.specs.Refusals.{endless}
@@ -21,8 +20,7 @@ use Rattle.rows.proofs.TickLaws.{port-length-is, port-figure-is}
 use Rattle.figures.specs.declared.flows.Outcome.{Outcome}
 use Rattle.figures.specs.Figures.{hopFigures}
 use Rattle.figures.specs.Computing.{Noted, FigureFor, PortsDone}
-use Rattle.figures.specs.Gathering.{Gathered, Found}
-use Rattle.figures.proofs.BoundLaws.{port-offered}
+use Rattle.figures.specs.Gathering.{Found}
 use Rattle.figures.proofs.NotedLaws.{no-port, noted-all}
 
 -- ---- after p ports: none of them is without a busy length, and the figures and jitters of the hops on them are noted
@@ -33,7 +31,7 @@ pub record PortsTo (net : Network) (p : ℕ) (figures jitters : List ℕ) : Type
   pub served : (i : ℕ) → i < p → endless net i ≡ false
 
 module _ (net : Network) where
-  pub ports-none : (figures jitters : List ℕ) → figures ≡ replicate 1024 0 → jitters ≡ replicate 1024 0 → PortsTo net 0 figures jitters
+  pub ports-none : (figures jitters : List ℕ) → figures ≡ replicate (limits .hops) 0 → jitters ≡ replicate (limits .hops) 0 → PortsTo net 0 figures jitters
   ports-none figures jitters e f = record {
     far = omega arith;
     figures-are = no-port net (figureOf net) figures e;
@@ -42,17 +40,14 @@ module _ (net : Network) where
   }
 
   -- ---- port p
-  module _ (p : ℕ) (flows : List ℕ) (count : ℕ) (all : Gathered (portFlows net (jitterOf net) p) flows count) where
-    pub port-accepted : Ranges net → References net → (count ≤ 1024) × (offered (flowsIn flows count) ≡ true)
-    port-accepted ranges refs = (all .few, rw (all .front) (port-offered net ranges refs p))
-
+  module _ (p : ℕ) (flows : List ℕ) (count : ℕ) (all : flowsIn flows count ≡ portFlows net (jitterOf net) p) where
     module _ (rules : net .tick ≡ inForce) (o : Outcome) (found : Found (flowsIn flows count) o) where
       found-endless : o .endless ≡ endless net p
       unfolding endless
-      found-endless = rw (port-length-is net rules (jitterOf net) p) (rw (all .front) at (found .endless-is))
+      found-endless = rw (port-length-is net rules (jitterOf net) p) (rw all at (found .endless-is))
 
       found-figure : o .figure ≡ portFigure net (jitterOf net) p
-      found-figure = rw (port-figure-is net rules (jitterOf net) p) (rw (all .front) at (found .figure-is))
+      found-figure = rw (port-figure-is net rules (jitterOf net) p) (rw all at (found .figure-is))
 
       pub figure-for : (figures : List ℕ) → Noted net (figureOf net) p figures → FigureFor net p (o .figure) figures
       figure-for figures before = record {
@@ -78,7 +73,7 @@ module _ (net : Network) where
 
   -- ---- all ports
   pub none-endless : References net → (p : ℕ) (figures jitters : List ℕ) → PortsTo net p figures jitters → (n : ℕ) → n ≡ length (net .ports) → n ≤ p
-      → length (net .hops) ≤ 1024 → PortsDone net n figures
+      → length (net .hops) ≤ limits .hops → PortsDone net n figures
   unfolding hopFigures
   none-endless refs p figures jitters all n e done few = record {
     first = record { inside = omega arith; before = λ i l. all .served i (omega (arith, all .far)); there = λ l. absurd (omega arith) };

@@ -1,51 +1,54 @@
--- Flows gathered one behind the other in a list with room for 1,024: those of the rows passed so far that a test is true of; and one row more.
--- Assumes nothing.
-use Prim.Native.Nat.{ℕ, _+_, _≤_}
+-- Flows gathered one behind the other in a list: those of the rows passed so far that a test is true of; one row more; and that the list has room for it,
+-- where the station takes the flows of all rows that pass. Assumes nothing.
+use Prim.Native.Nat.{ℕ, suc, _+_, _*_, _≤_, _<_}
 use mathlib.Core.Bool.{Bool, true, false}
-use mathlib.Core.List.{List, [], _∷_, _++_, map}
+use mathlib.Core.List.{List, [], _∷_, _++_, map, map-append}
 use mathlib.Core.Path.{_≡_, refl, sym, ap, ap₂, _∙_}
 use native.Mathlib.Numerals.{add-one}
 use native.Mathlib.Omega.{arith}
-use lib.ListN.{length}
+use borrow.Author.Tests.{leb-true}
+use lib.Dec.{leb}
+use lib.ListN.{length, length-append, length-map}
 use Rattle.base.specs.Tabulate.{tabulate, passing}
 use Rattle.base.proofs.TabulateLaws.{passing-hit, passing-miss}
 use Rattle.station.specs.Station.{Flow}
+use Rattle.station.specs.Offered.{mostFlows, allInRange, offered}
 use Rattle.station.specs.Flat.{flowsIn}
+use Rattle.station.proofs.FlatLaws.{length-flows-in}
+use Rattle.station.proofs.FlowLaws.{and-true}
+use Rattle.figures.proofs.SumLaws.{passing-grows}
 
--- of the first n rows those that pass are gathered, `count` of them
-pub record Gathers (f : ℕ → Flow) (p : ℕ → Bool) (n : ℕ) (list : List ℕ) (count : ℕ) : Type 0 where
-  pub few : count ≤ n
-  pub long : length list ≡ 3072
-  pub front : flowsIn list count ≡ map f (passing p n)
+-- flows that the station takes are no more than its most
+pub offered-few : (fs : List Flow) → offered fs ≡ true → length fs ≤ mostFlows
+unfolding offered
+offered-few fs ok = leb-true (length fs) mostFlows (and-true (leb (length fs) mostFlows) (allInRange fs) ok .0)
 
 module _ (f : ℕ → Flow) (p : ℕ → Bool) where
-  map-snoc : (l : List ℕ) (x : ℕ) → map f (l ++ (x ∷ [])) ≡ map f l ++ (f x ∷ [])
-  map-snoc [] x = refl
-  map-snoc (y ∷ l) x = ap (λ (r : List Flow). f y ∷ r) (map-snoc l x)
+  -- of the first n rows those that pass are gathered, `count` of them
+  abbrev pub Gathers : ℕ → List ℕ → ℕ → Type 0
+  Gathers n list count = flowsIn list count ≡ map f (passing p n)
 
-  pub gather-start : (list : List ℕ) → length list ≡ 3072 → Gathers f p 0 list 0
+  pub gather-start : (list : List ℕ) → Gathers 0 list 0
   unfolding passing flowsIn tabulate
-  gather-start list h = record { few = omega arith; long = h; front = refl }
+  gather-start list = refl
 
-  module _ (n : ℕ) (list : List ℕ) (count : ℕ) (g : Gathers f p n list count) where
+  module _ (n : ℕ) (list : List ℕ) (count : ℕ) (g : Gathers n list count) where
     -- row n passes: its flow is put behind the others
-    pub gather-taken : (x : Flow) → p n ≡ true → x ≡ f n → (after : List ℕ) → (length after ≡ 3072) × (flowsIn after (count + 1) ≡ flowsIn list count ++ (x ∷ []))
-        → Gathers f p (n + 1) after (count + 1)
-    gather-taken x e is after put = record {
-      few = omega (arith, g .few);
-      long = put .0;
-      front =
-          rw (add-one n)
-          (put .1
-          ∙ ap₂ (λ (l : List Flow) (y : Flow). l ++ (y ∷ [])) (g .front) is
-          ∙ sym (map-snoc (passing p n) n)
-          ∙ ap (map f) (sym (passing-hit p n e)));
-    }
+    pub gather-taken : (x : Flow) → p n ≡ true → x ≡ f n → (after : List ℕ) (r : ℕ) → flowsIn after r ≡ flowsIn list count ++ (x ∷ [])
+        → Gathers (n + 1) after r
+    gather-taken x e is after r put =
+        rw (add-one n)
+        (put
+        ∙ ap₂ (λ (l : List Flow) (y : Flow). l ++ (y ∷ [])) g is
+        ∙ sym (ap (map f) (passing-hit p n e) ∙ map-append f (passing p n) (n ∷ [])))
 
     -- it does not
-    pub gather-passed : p n ≡ false → Gathers f p (n + 1) list count
-    gather-passed e = record {
-      few = omega (arith, g .few);
-      long = g .long;
-      front = rw add-one (g .front ∙ ap (map f) (sym (passing-miss p n e)));
-    }
+    pub gather-passed : p n ≡ false → Gathers (n + 1) list count
+    gather-passed e = rw (add-one n) (g ∙ ap (map f) (sym (passing-miss p n e)))
+
+    -- of all rows no more pass than the station takes, so there is room for that of row n
+    pub gather-room : p n ≡ true → (all : ℕ) → n < all → offered (map f (passing p all)) ≡ true → count * 3 + 2 < mostFlows * 3
+    gather-room e all l ok =
+        let so-far = sym (length-flows-in list count) ∙ ap length g ∙ length-map (passing p n) f in
+        let one-more = ap length (passing-hit p n e) ∙ length-append (passing p n) (n ∷ []) in
+        omega (arith, so-far, one-more, passing-grows p (suc n) all l, offered-few (map f (passing p all)) ok, length-map (passing p all) f)

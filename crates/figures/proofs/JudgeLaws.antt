@@ -12,6 +12,7 @@ use lib.ListN.{length, replicate}
 use Rattle.base.specs.Least.{leastFrom}
 use Rattle.base.specs.Tests.{isSome}
 use Rattle.base.proofs.LeastLaws.{least-is, least-none}
+use Rattle.layout.specs.Limits.{limits}
 use Rattle.layout.specs.Sizes.{place}
 use Rattle.layout.proofs.SizeLaws.{most-are}
 use Rattle.network.specs.Network.{Network}
@@ -71,17 +72,17 @@ module _ (net : Network) (r : ℕ) where
     none-10 = none-at 10 4 (endless net) (length (net .ports)) r first
 
 module _ (net : Network) (room : ℕ) where
-  pub given-8-many : 1024 < length (rowsOf net) → answer8 net room ≡ some (answer 8 0 0 0)
+  pub given-8-many : limits .rows < length (rowsOf net) → answer8 net room ≡ some (answer 8 0 0 0)
   unfolding answer8 tooManyRows
-  given-8-many h = rw (lt-ltb 1024 (length (rowsOf net)) h)
+  given-8-many h = rw (lt-ltb (limits .rows) (length (rowsOf net)) h)
 
-  pub given-8-short : length (rowsOf net) ≤ 1024 → room < 6 * length (rowsOf net) → answer8 net room ≡ some (answer 8 0 0 1)
+  pub given-8-short : length (rowsOf net) ≤ limits .rows → room < 6 * length (rowsOf net) → answer8 net room ≡ some (answer 8 0 0 1)
   unfolding answer8 tooManyRows tooShort
-  given-8-short h l = rw (le-ltb 1024 (length (rowsOf net)) h, lt-ltb room (6 * length (rowsOf net)) l)
+  given-8-short h l = rw (le-ltb (limits .rows) (length (rowsOf net)) h, lt-ltb room (6 * length (rowsOf net)) l)
 
-  pub none-8 : length (rowsOf net) ≤ 1024 → 6 * length (rowsOf net) ≤ room → answer8 net room ≡ none
+  pub none-8 : length (rowsOf net) ≤ limits .rows → 6 * length (rowsOf net) ≤ room → answer8 net room ≡ none
   unfolding answer8 tooManyRows tooShort
-  none-8 h l = rw (le-ltb 1024 (length (rowsOf net)) h, le-ltb room (6 * length (rowsOf net)) l)
+  none-8 h l = rw (le-ltb (limits .rows) (length (rowsOf net)) h, le-ltb room (6 * length (rowsOf net)) l)
 
   -- ---- the first of them that is given
   module _ (r : Answer) (waits queues hops : List ℕ) where
@@ -99,8 +100,8 @@ module _ (net : Network) (room : ℕ) where
 -- ---- what all answers leave
 module _ (bytes : List ℕ) (room : ℕ) (r : Answer) (net waits queues hops : List ℕ) where
   -- a refusal: zeros everywhere
-  pub refused-leaves : r ≡ analysisAnswer bytes room → 0 < r .number → net ≡ replicate (place 6) 0 → waits ≡ replicate 256 0 → queues ≡ replicate 1024 0 → hops ≡ replicate 1024 0
-      → Figured bytes room r net waits queues hops
+  pub refused-leaves : r ≡ analysisAnswer bytes room → 0 < r .number → net ≡ replicate (place 6) 0 → waits ≡ replicate (limits .vls) 0 → queues ≡ replicate (limits .vls * 4) 0
+      → hops ≡ replicate (limits .hops) 0 → Figured bytes room r net waits queues hops
   unfolding accepts left
   refused-leaves is h n w q p =
       let no : eqb (analysisAnswer bytes room .number) 0 ≡ false = ne-eqb (analysisAnswer bytes room .number) 0 (λ z. omega (arith, ap (λ (x : Answer). x .number) is)) in

@@ -6,6 +6,7 @@ use mathlib.Core.Path.{_≡_, sym, ap, _∙_}
 use native.Mathlib.Omega.{arith}
 use borrow.Author.Tests.{eq-eqb}
 use lib.ListN.{length, getD}
+use Rattle.layout.specs.Limits.{limits}
 use Rattle.layout.proofs.SizeLaws.{most-are}
 use Rattle.network.specs.Network.{Network, vlAt}
 use Rattle.network.specs.Ranges.{Ranges}
@@ -29,19 +30,19 @@ use Rattle.figures.proofs.QueueLaws.{queue-at}
 module _ (net : Network) (waits queues hops : List ℕ) (all : Computed net waits queues hops) where
   pub wait-at : (v : ℕ) → v < length (net .vls) → getD waits v 0 ≡ muxWait net v
   unfolding waitsOf
-  wait-at v l = ap (λ (ws : List ℕ). getD ws v 0) (all .waits-are) ∙ noted-at (muxWait net) 256 (length (net .vls)) v l
+  wait-at v l = ap (λ (ws : List ℕ). getD ws v 0) (all .waits-are) ∙ noted-at (muxWait net) (limits .vls) (length (net .vls)) v l
 
   pub queue-there : Ranges net → (v k : ℕ) → v < length (net .vls) → k < vlAt net v .sublinks → getD queues (v * 4 + k) 0 ≡ queueFigure net v k
   unfolding queuesOf
   queue-there ranges v k l h =
       let four : k < 4 = omega (arith, ranges .vl v l .sub-links-greatest) in
       ap (λ (qs : List ℕ). getD qs (v * 4 + k) 0) (all .queues-are)
-      ∙ noted-at (queueAt net) 1024 (length (net .vls) * 4) (v * 4 + k) (omega arith)
+      ∙ noted-at (queueAt net) (limits .vls * 4) (length (net .vls) * 4) (v * 4 + k) (omega arith)
       ∙ queue-at net v k four h
 
   pub figure-at : (h : ℕ) → h < length (net .hops) → getD hops h 0 ≡ figureOf net h
   unfolding hopFigures
-  figure-at h l = ap (λ (fs : List ℕ). getD fs h 0) (all .hops-are) ∙ noted-at (figureOf net) 1024 (length (net .hops)) h l
+  figure-at h l = ap (λ (fs : List ℕ). getD fs h 0) (all .hops-are) ∙ noted-at (figureOf net) (limits .hops) (length (net .hops)) h l
 
 -- ---- on acceptance
 pub record Known (bytes : List ℕ) (room : ℕ) (sheet waits queues hops : List ℕ) : Type 0 where

@@ -9,6 +9,7 @@ use native.Mathlib.Omega.{arith}
 use borrow.Author.Count.{below-more}
 use lib.ListN.{length, getD, set, replicate, length-set}
 use lib.Seq.{getD-set-same, getD-set-other}
+use Rattle.layout.specs.Limits.{limits}
 use Rattle.network.specs.Network.{Network, hopAt}
 use Rattle.network.specs.ReferenceFacts.{References}
 use Rattle.figures.specs.Computing.{noted, Noted}
@@ -20,8 +21,8 @@ pub record NotedTo (net : Network) (f : ℕ → ℕ) (p h : ℕ) (list : List �
   pub here : (i : ℕ) → i < h → hopAt net i .port ≡ p → getD list i 0 ≡ f i
 
 module _ (net : Network) (f : ℕ → ℕ) where
-  pub no-port : (list : List ℕ) → list ≡ replicate 1024 0 → Noted net f 0 list
-  no-port list e = rw e record { long = refl; below = λ h l k. absurd (omega arith); behind = λ i l. zeros-at 1024 i }
+  pub no-port : (list : List ℕ) → list ≡ replicate (limits .hops) 0 → Noted net f 0 list
+  no-port list e = rw e record { long = refl; below = λ h l k. absurd (omega arith); behind = λ i l. zeros-at (limits .hops) i }
 
   module _ (p : ℕ) where
     pub noted-start : (list : List ℕ) → Noted net f p list → NotedTo net f p 0 list
@@ -29,7 +30,7 @@ module _ (net : Network) (f : ℕ → ℕ) where
 
     module _ (h : ℕ) (list : List ℕ) (so-far : NotedTo net f p h list) where
       -- a hop that is on the port, and one that is not
-      pub noted-taken : (x : ℕ) → h < length (net .hops) → h < 1024 → hopAt net h .port ≡ p → x ≡ f h → NotedTo net f p (h + 1) (set list h x)
+      pub noted-taken : (x : ℕ) → h < length (net .hops) → h < limits .hops → hopAt net h .port ≡ p → x ≡ f h → NotedTo net f p (h + 1) (set list h x)
       noted-taken x row room on e = record {
         lower = record {
           long = length-set list h x ∙ so-far .lower .long;
@@ -59,7 +60,7 @@ module _ (net : Network) (f : ℕ → ℕ) where
       }
 
   -- all ports: each hop is on one of them
-  pub noted-all : References net → (p : ℕ) (list : List ℕ) → length (net .hops) ≤ 1024 → length (net .ports) ≤ p → Noted net f p list
-      → list ≡ noted f 1024 (length (net .hops))
+  pub noted-all : References net → (p : ℕ) (list : List ℕ) → length (net .hops) ≤ limits .hops → length (net .ports) ≤ p → Noted net f p list
+      → list ≡ noted f (limits .hops) (length (net .hops))
   noted-all refs p list few all n =
-      noted-by f 1024 (length (net .hops)) list few (n .long) (λ h l. n .below h l (omega (arith, refs .hop-port h l))) (n .behind)
+      noted-by f (limits .hops) (length (net .hops)) list few (n .long) (λ h l. n .below h l (omega (arith, refs .hop-port h l))) (n .behind)

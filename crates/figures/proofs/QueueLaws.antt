@@ -12,10 +12,14 @@ use Rattle.base.specs.Tests.{isSome}
 use Rattle.base.proofs.LeastLaws.{least-none, least-exists}
 use Rattle.base.proofs.TestLaws.{some-is, none-is}
 use Rattle.frame.specs.Tick.{inForce}
+use Rattle.layout.specs.Limits.{limits}
 use Rattle.network.specs.declared.Vl.{Vl}
 use Rattle.network.specs.declared.Stream.{Stream}
 use Rattle.network.specs.Network.{Network, vlAt, streamAt}
+use Rattle.station.specs.Offered.{mostFlows}
 use Rattle.station.specs.Flat.{flowsIn}
+use Rattle.network.specs.Ranges.{Ranges}
+use Rattle.network.specs.ReferenceFacts.{References}
 use Rattle.network.specs.Views.{streamsOn}
 use Rattle.rows.specs.Queues.{queueFlow, queueFlows, queueLength, queueFigure}
 use Rattle.rows.specs.Refusals.{endlessSubLink}
@@ -25,9 +29,10 @@ use Rattle.figures.specs.declared.flows.Outcome.{Outcome}
 use Rattle.sheet.specs.Sheet.{delaysIn}
 use Rattle.figures.specs.Figures.{queueAt}
 use Rattle.figures.specs.Computing.{noted, QueueOf}
-use Rattle.figures.specs.Gathering.{flowOf, Gathered, Found}
+use Rattle.figures.specs.Gathering.{flowOf, Found}
 use Rattle.figures.proofs.FillLaws.{noted-zeros}
-use Rattle.figures.proofs.GatherLaws.{Gathers}
+use Rattle.figures.proofs.BoundLaws.{queue-offered}
+use Rattle.figures.proofs.GatherLaws.{Gathers, gather-room}
 
 -- ---- the flow of a stream, from what is read off the sheet
 pub queue-flow-is : (net : Network) (s v : ℕ) (d : Delays) (stream : Stream) (vl : Vl) → d ≡ delaysIn net → stream ≡ streamAt net s → stream .vl ≡ v → vl ≡ vlAt net v
@@ -43,6 +48,13 @@ module _ (net : Network) (v k s : ℕ) (stream : Stream) (is : stream ≡ stream
   pub on-sub-link : stream .vl ≡ v → stream .sublink ≡ k → onSubLink net v k s ≡ true
   on-sub-link e f = rw (← is, eq-eqb _ _ e, eq-eqb _ _ f)
 
+  -- it has its place: a queue has no more flows than there are streams
+  pub sub-link-room : Ranges net → References net → s < length (net .streams) → stream .vl ≡ v → stream .sublink ≡ k → (flows : List ℕ) (count : ℕ)
+      → Gathers (queueFlow net) (onSubLink net v k) s flows count → count * 3 + 2 < mostFlows * 3
+  unfolding queueFlows streamsOn
+  sub-link-room ranges refs row e f flows count g =
+      gather-room (queueFlow net) (onSubLink net v k) s flows count g (on-sub-link e f) (length (net .streams)) row (queue-offered net ranges refs v k)
+
   pub on-other-sub-link : (stream .sublink ≡ k → ⊥) → onSubLink net v k s ≡ false
   on-other-sub-link f = rw (← is, ne-eqb _ _ f) (and-false (eqb (stream .vl) v))
 
@@ -51,17 +63,17 @@ module _ (net : Network) (v k s : ℕ) (stream : Stream) (is : stream ≡ stream
 
 module _ (net : Network) (v k : ℕ) where
   -- all streams are passed
-  pub sub-link-gathered : (n : ℕ) (flows : List ℕ) (count : ℕ) → n ≡ length (net .streams) → n ≤ 1024
-      → Gathers (queueFlow net) (onSubLink net v k) n flows count → Gathered (queueFlows net v k) flows count
+  pub sub-link-gathered : (n : ℕ) (flows : List ℕ) (count : ℕ) → n ≡ length (net .streams)
+      → Gathers (queueFlow net) (onSubLink net v k) n flows count → flowsIn flows count ≡ queueFlows net v k
   unfolding queueFlows streamsOn
-  sub-link-gathered n flows count all few g = record { long = g .long; few = omega (arith, g .few); front = rw (← all) (g .front) }
+  sub-link-gathered n flows count all g = rw (← all) g
 
   -- what the station found of the flows is the queue
-  pub queue-found : net .tick ≡ inForce → (flows : List ℕ) (count : ℕ) (o : Outcome) (gap r : ℕ) → Gathered (queueFlows net v k) flows count → Found (flowsIn flows count) o → gap ≡ vlAt net v .gap
+  pub queue-found : net .tick ≡ inForce → (flows : List ℕ) (count : ℕ) (o : Outcome) (gap r : ℕ) → flowsIn flows count ≡ queueFlows net v k → Found (flowsIn flows count) o → gap ≡ vlAt net v .gap
       → r ≡ o .figure - gap → QueueOf net v k (record { endless = o .endless; figure = r })
   queue-found rules flows count o gap r g found same e = record {
-    endless-is = rw (queue-length-is net rules v k) (found .endless-is ∙ rw (g .front));
-    figure-is = rw (queue-figure-is net rules v k) (e ∙ rw (found .figure-is, g .front, same));
+    endless-is = rw (queue-length-is net rules v k) (found .endless-is ∙ rw g);
+    figure-is = rw (queue-figure-is net rules v k) (e ∙ rw (found .figure-is, g, same));
   }
 
 -- ---- a queue without a busy length
@@ -95,11 +107,11 @@ module _ (net : Network) (v k : ℕ) (four : k < 4) where
   no-queue-at h = rw (place-vl, place-link, le-ltb k (vlAt net v .sublinks) h)
 
 -- the sub-links that VL v has are noted, and it has no other
-pub vl-noted : (net : Network) (v k : ℕ) (queues : List ℕ) → k ≡ vlAt net v .sublinks → k ≤ 4 → v < 256 → queues ≡ noted (queueAt net) 1024 (v * 4 + k)
-    → queues ≡ noted (queueAt net) 1024 (v * 4 + 4)
+pub vl-noted : (net : Network) (v k : ℕ) (queues : List ℕ) → k ≡ vlAt net v .sublinks → k ≤ 4 → v < limits .vls → queues ≡ noted (queueAt net) (limits .vls * 4) (v * 4 + k)
+    → queues ≡ noted (queueAt net) (limits .vls * 4) (v * 4 + 4)
 vl-noted net v k queues all few low e =
     let rest : v * 4 + k + (4 - k) ≡ v * 4 + 4 = omega arith in
-    e ∙ sym (rw rest at (noted-zeros (queueAt net) 1024 (v * 4 + k) (4 - k) (omega arith) none-there))
+    e ∙ sym (rw rest at (noted-zeros (queueAt net) (limits .vls * 4) (v * 4 + k) (4 - k) (omega arith) none-there))
   where
     none-there : (i : ℕ) → v * 4 + k ≤ i → i < v * 4 + k + (4 - k) → queueAt net i ≡ 0
     none-there i a b =

@@ -1,20 +1,33 @@
 -- Sums over lists of numbers and over the numbers that pass a test: one number more, and no more than the greatest each time; and lists of flows under a map.
 -- Assumes nothing.
-use Prim.Native.Nat.{ℕ, suc, _+_, _*_, _≤_, _<_}
+use Prim.Native.Nat.{ℕ, zero, suc, _+_, _*_, _≤_, _<_}
 use mathlib.Core.Bool.{Bool, true, false}
 use mathlib.Core.List.{List, [], _∷_, _++_, map, map-append, List·Memᴰ, List·Memᴰ·head, List·Memᴰ·tail}
 use mathlib.Core.Path.{_≡_, refl, sym, ap, _∙_}
+use native.Mathlib.Decide.{decLt}
 use native.Mathlib.Nat.{mul-le-mul-right}
 use native.Mathlib.Omega.{arith}
-use lib.ListN.{length}
+use lib.ListN.{length, length-append}
 use borrow.Author.Tests.{le-leb}
 use Rattle.base.specs.Tabulate.{passing, total}
-use Rattle.base.proofs.TabulateLaws.{passing-hit, passing-miss, passing-member, length-passing}
+use Rattle.base.proofs.TabulateLaws.{passing-hit, passing-miss, passing-by, passing-member, length-passing}
 use Rattle.bits.proofs.RecordLaws.{total-append}
 use Rattle.station.specs.Station.{Flow}
 use Rattle.station.specs.Offered.{inRange, allInRange}
 use Rattle.station.specs.Facts.{Periodic}
 use Rattle.station.proofs.FlowLaws.{InRange, all-but-cost}
+
+-- ---- of more numbers no fewer pass
+pub passing-grows : (p : ℕ → Bool) (n m : ℕ) → n ≤ m → length (passing p n) ≤ length (passing p m)
+passing-grows p n zero h = let e : n ≡ 0 = omega arith in rw e (omega arith)
+passing-grows p n (suc m) h = elim (decLt n (suc m)) [
+  | yes l ↦
+      let before = passing-grows p n m (omega arith) in
+      passing-by (λ (l : List ℕ). length (passing p n) ≤ length l) p m
+      (λ k. omega (arith, length-append (passing p m) (m ∷ [])))
+      (λ k. before)
+  | no o ↦ let e : n ≡ suc m = omega arith in rw e (omega arith)
+]
 
 -- ---- sums
 module _ (f : ℕ → ℕ) where

@@ -8,12 +8,14 @@ use lib.Dec.{eqb}
 use lib.ListN.{length, getD, replicate}
 use Rattle.base.specs.Tabulate.{tabulate, passing, total}
 use Rattle.base.specs.Tests.{isSome}
+use Rattle.layout.specs.Limits.{limits}
 use Rattle.network.specs.declared.Vl.{Vl}
 use Rattle.network.specs.declared.Stream.{Stream}
 use Rattle.network.specs.declared.Port.{Port}
 use Rattle.network.specs.declared.Hop.{Hop}
 use Rattle.network.specs.Network.{Network, vlAt, hopAt}
 use Rattle.network.specs.Ranges.{VlRange, StreamRange}
+use Rattle.station.specs.Flat.{flowsIn}
 use Rattle.rows.specs.Links.{sendMost}
 use Rattle.rows.specs.Queues.{queueLength, queueFigure}
 use Rattle.rows.specs.Ports.{portFlows, jitterOf, figureOf}
@@ -23,7 +25,6 @@ use Rattle.sheet.specs.declared.Delays.{Delays}
 use Rattle.sheet.specs.Sheet.{networkOn, Good}
 use Rattle.figures.specs.declared.flows.Outcome.{Outcome}
 use Rattle.figures.specs.Figures.{waitsOf, queueAt, queuesOf, hopFigures}
-use Rattle.figures.specs.Gathering.{Gathered}
 
 -- ---- the first of n rows that a test is true of, and n where there is none
 pub record First (test : ℕ → Bool) (n r : ℕ) : Type 0 where
@@ -79,26 +80,24 @@ pub record QueueOf (net : Network) (v k : ℕ) (r : Outcome) : Type 0 where
 pub record VlAsked (sheet : List ℕ) (v : ℕ) (queues : List ℕ) : Type 0 where
   pub good : Good sheet
   pub row : v < length (networkOn sheet .vls)
-  pub before : queues ≡ noted (queueAt (networkOn sheet)) 1024 (v * 4)
+  pub before : queues ≡ noted (queueAt (networkOn sheet)) (limits .vls * 4) (v * 4)
 
 pub record VlQueues (net : Network) (v : ℕ) (r : Bool) (queues : List ℕ) : Type 0 where
   pub endless-is : r ≡ isSome (endlessSubLink net v)
-  pub after : r ≡ false → queues ≡ noted (queueAt net) 1024 (v * 4 + 4)
+  pub after : r ≡ false → queues ≡ noted (queueAt net) (limits .vls * 4) (v * 4 + 4)
 
 -- what is asked for and found for all VLs: the first with a queue that has no busy length; where there is none, all are noted
-pub record QueuesAsked (sheet flows queues : List ℕ) : Type 0 where
+pub record QueuesAsked (sheet queues : List ℕ) : Type 0 where
   pub good : Good sheet
-  pub long : length flows ≡ 3072
-  pub no-queues : queues ≡ replicate 1024 0
+  pub no-queues : queues ≡ replicate (limits .vls * 4) 0
 
-pub record QueuesDone (net : Network) (r : ℕ) (flows queues : List ℕ) : Type 0 where
+pub record QueuesDone (net : Network) (r : ℕ) (queues : List ℕ) : Type 0 where
   pub first : First (λ v. isSome (endlessSubLink net v)) (length (net .vls)) r
-  pub queues-are : length (net .vls) ≤ r → queues ≡ lent 1024 (queuesOf net)
-  pub long : length flows ≡ 3072
+  pub queues-are : length (net .vls) ≤ r → queues ≡ lent (limits .vls * 4) (queuesOf net)
 
 -- ---- ports: numbers by hop, of the hops on ports below p; zeros behind the hops
 pub record Noted (net : Network) (f : ℕ → ℕ) (p : ℕ) (list : List ℕ) : Type 0 where
-  pub long : length list ≡ 1024
+  pub long : length list ≡ limits .hops
   pub below : (h : ℕ) → h < length (net .hops) → hopAt net h .port < p → getD list h 0 ≡ f h
   pub behind : (i : ℕ) → length (net .hops) ≤ i → getD list i 0 ≡ 0
 
@@ -106,7 +105,7 @@ pub record Noted (net : Network) (f : ℕ → ℕ) (p : ℕ) (list : List ℕ) :
 pub record VlWaits (sheet : List ℕ) (v : ℕ) (waits : List ℕ) : Type 0 where
   pub good : Good sheet
   pub row : v < length (networkOn sheet .vls)
-  pub waits-are : waits ≡ lent 256 (waitsOf (networkOn sheet))
+  pub waits-are : waits ≡ lent (limits .vls) (waitsOf (networkOn sheet))
 
 -- hop g's figure and jitter are noted
 pub record Above (sheet : List ℕ) (g : ℕ) (figures jitters : List ℕ) : Type 0 where
@@ -119,7 +118,7 @@ pub record Above (sheet : List ℕ) (g : ℕ) (figures jitters : List ℕ) : Typ
 pub record PortAsked (sheet waits figures jitters : List ℕ) (p : ℕ) : Type 0 where
   pub good : Good sheet
   pub row : p < length (networkOn sheet .ports)
-  pub waits-are : waits ≡ lent 256 (waitsOf (networkOn sheet))
+  pub waits-are : waits ≡ lent (limits .vls) (waitsOf (networkOn sheet))
   pub figures-are : Noted (networkOn sheet) (figureOf (networkOn sheet)) p figures
   pub jitters-are : Noted (networkOn sheet) (jitterOf (networkOn sheet)) p jitters
 
@@ -131,19 +130,18 @@ pub record HopAsked (sheet waits figures jitters : List ℕ) (h : ℕ) (hop : Ho
 
 -- the flows of port p are gathered, and the jitters of the hops on it noted
 pub record PortGathered (net : Network) (p count : ℕ) (jitters flows : List ℕ) : Type 0 where
-  pub gathered : Gathered (portFlows net (jitterOf net) p) flows count
+  pub gathered : flowsIn flows count ≡ portFlows net (jitterOf net) p
   pub jitters-are : Noted net (jitterOf net) (suc p) jitters
 
 -- what is asked for and found for all ports: the first that has no busy length; where there is none, the figures of all hops are noted
-pub record PortsAsked (sheet waits flows figures : List ℕ) : Type 0 where
+pub record PortsAsked (sheet waits figures : List ℕ) : Type 0 where
   pub good : Good sheet
-  pub waits-are : waits ≡ lent 256 (waitsOf (networkOn sheet))
-  pub long : length flows ≡ 3072
-  pub no-figures : figures ≡ replicate 1024 0
+  pub waits-are : waits ≡ lent (limits .vls) (waitsOf (networkOn sheet))
+  pub no-figures : figures ≡ replicate (limits .hops) 0
 
 pub record PortsDone (net : Network) (r : ℕ) (figures : List ℕ) : Type 0 where
   pub first : First (endless net) (length (net .ports)) r
-  pub figures-are : length (net .ports) ≤ r → figures ≡ lent 1024 (hopFigures net)
+  pub figures-are : length (net .ports) ≤ r → figures ≡ lent (limits .hops) (hopFigures net)
 
 -- a figure that is that of each hop on port p
 pub record FigureFor (net : Network) (p figure : ℕ) (figures : List ℕ) : Type 0 where

@@ -1,16 +1,14 @@
--- The flows that are gathered for a queue or a port, and what the station said of them. Nothing here has to be believed.
+-- The flow of a stream, and what the station said of the flows of a queue or a port. Nothing here has to be believed.
 -- Assumes nothing.
-use Prim.Native.Nat.{ℕ, _+_, _-_, _*_, _≤_}
+use Prim.Native.Nat.{_+_, _-_, _*_}
 use mathlib.Core.Bool.{not}
 use mathlib.Core.List.{List}
 use mathlib.Core.Path.{_≡_}
-use lib.ListN.{length}
 use Rattle.base.specs.Tests.{isSome, numberOr0}
 use Rattle.frame.specs.Packets.{packets}
 use Rattle.network.specs.declared.Vl.{Vl}
 use Rattle.network.specs.declared.Stream.{Stream}
 use Rattle.station.specs.Station.{Flow, busyLength, figure}
-use Rattle.station.specs.Flat.{flowsIn}
 use Rattle.sheet.specs.declared.Delays.{Delays}
 use Rattle.figures.specs.declared.flows.Outcome.{Outcome}
 
@@ -21,12 +19,6 @@ flowOf d stream vl = record {
   jitter = stream .jitter + (d .«send_greatest» - d .«send_least»);
   cost = packets (stream .size) (vl .lmax) * vl .sublinks * vl .gap;
 }
-
--- the first `count` flows of the list
-pub record Gathered (fs : List Flow) (list : List ℕ) (count : ℕ) : Type 0 where
-  pub long : length list ≡ 3072
-  pub few : count ≤ 1024
-  pub front : flowsIn list count ≡ fs
 
 -- what the station says of flows: whether they have no busy length, and their figure, 0 without one
 pub record Found (fs : List Flow) (r : Outcome) : Type 0 where

@@ -4,9 +4,10 @@ use layout::sizes::MOST_HOPS;
 use layout::sizes::MOST_VLS;
 use layout::sizes::SHEET;
 ghost use mathlib.Core.Path.{_≡_};
-ghost use Prim.Native.Nat.{_≤_};
+ghost use Prim.Native.Nat.{_≤_, _*_};
 ghost use lib.ListN.{length};
 ghost use Rattle.base.specs.Tabulate.{tabulate};
+ghost use Rattle.layout.specs.Limits.{limits};
 ghost use Rattle.network.specs.Views.{leavesOf};
 ghost use Rattle.rows.specs.Rows.{rowsOf};
 ghost use Rattle.sheet.specs.Sheet.{networkOn, Good};
@@ -15,7 +16,7 @@ ghost use Rattle.sheet.specs.Walks.{leavesOn};
 // The destinations of each VL.
 fn destinations(net: &[u64; SHEET], leaves: &[bool; MOST_HOPS]) -> [usize; MOST_VLS]
     requires { ⌜ Good (now net) × (now leaves ≡ leavesOn (now net)) ⌝ }
-    ensures { λ r. ⌜ r ≡ tabulate (λ v. length (leavesOf (networkOn (now (net .entry))) v)) 256 ⌝ }
+    ensures { λ r. ⌜ r ≡ tabulate (λ v. length (leavesOf (networkOn (now (net .entry))) v)) (limits .vls) ⌝ }
 {
     let mut counts = [0usize; MOST_VLS];
     let n = sheet::hops_in(net);
@@ -33,7 +34,7 @@ fn destinations(net: &[u64; SHEET], leaves: &[bool; MOST_HOPS]) -> [usize; MOST_
 
 pub fn row_count(net: &[u64; SHEET]) -> usize
     requires { ⌜ Good (now net) ⌝ }
-    ensures { λ r. ⌜ (r ≡ length (rowsOf (networkOn (now (net .entry))))) × (r ≤ 524288) ⌝ }
+    ensures { λ r. ⌜ (r ≡ length (rowsOf (networkOn (now (net .entry))))) × (r ≤ 4095 * 4095) ⌝ }
 {
     let leaves = sheet::leaves(net);
     let counts = destinations(net, &leaves);

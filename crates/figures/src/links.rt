@@ -10,6 +10,7 @@ ghost use mathlib.Core.Path.{_≡_};
 ghost use Prim.Native.Nat.{_<_, _≤_, _-_, _*_};
 ghost use lib.ListN.{length, replicate};
 ghost use Rattle.frame.specs.Frame.{leastLine, largestLine};
+ghost use Rattle.layout.specs.Limits.{limits};
 ghost use Rattle.rows.specs.Links.{sendSum, muxWait};
 ghost use Rattle.rows.specs.Refusals.{sendsLate};
 ghost use Rattle.table.specs.Sections.{lent};
@@ -72,8 +73,8 @@ fn mux_wait(net: &[u64; SHEET], v: usize) -> u64
 
 // The mux wait of each VL, in a list that is zero before.
 pub fn mux_waits(net: &[u64; SHEET], waits: &mut [u64; MOST_VLS])
-    requires { ⌜ Good (now net) × (now waits ≡ replicate 256 0) ⌝ }
-    ensures { λ _. ⌜ now (waits .exit) ≡ lent 256 (waitsOf (networkOn (now (net .entry)))) ⌝ }
+    requires { ⌜ Good (now net) × (now waits ≡ replicate (limits .vls) 0) ⌝ }
+    ensures { λ _. ⌜ now (waits .exit) ≡ lent (limits .vls) (waitsOf (networkOn (now (net .entry)))) ⌝ }
 {
     let n = sheet::vls_in(net);
     let mut v = 0;

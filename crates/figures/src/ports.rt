@@ -13,8 +13,7 @@ use network::Parent;
 use network::Port;
 use station::Flow;
 ghost use mathlib.Core.Path.{_≡_};
-ghost use Prim.Native.Nat.{_≤_, _+_, _-_, suc};
-ghost use lib.ListN.{length};
+ghost use Prim.Native.Nat.{_≤_, _+_, _-_, _*_, suc};
 ghost use Rattle.network.specs.Network.{portAt};
 ghost use Rattle.rows.specs.Links.{sendSpread, muxWait, hopLine, hopSpread};
 ghost use Rattle.rows.specs.Ports.{hopFlow, jitterOf, figureOf};
@@ -32,7 +31,7 @@ fn spread(port: Port) -> u64
 // By how much the frames of VL v are apart when they leave the end system.
 fn sent_apart(net: &[u64; SHEET], waits: &[u64; MOST_VLS], v: usize) -> u64
     requires { ⌜ VlWaits (now net) v (now waits) ⌝ }
-    ensures { λ r. ⌜ (r ≡ muxWait (networkOn (now (net .entry))) v + sendSpread (networkOn (now (net .entry))) v) × (r ≤ 3955000) ⌝ }
+    ensures { λ r. ⌜ (r ≡ muxWait (networkOn (now (net .entry))) v + sendSpread (networkOn (now (net .entry))) v) × (r ≤ 4096 * 15380) ⌝ }
 {
     let vl = sheet::vl_at(net, v);
     let system = sheet::system_at(net, vl.system);
@@ -104,7 +103,7 @@ fn port_flows(
     jitters: &mut [u64; MOST_HOPS],
     flows: &mut [u64; FLOWS],
 ) -> usize
-    requires { ⌜ PortAsked (now net) (now waits) (now figures) (now jitters) p × (length (now flows) ≡ 3072) ⌝ }
+    requires { ⌜ PortAsked (now net) (now waits) (now figures) (now jitters) p ⌝ }
     ensures { λ r. ⌜ PortGathered (networkOn (now (net .entry))) p r (now (jitters .exit)) (now (flows .exit)) ⌝ }
 {
     let port = sheet::port_at(net, p);
@@ -116,8 +115,7 @@ fn port_flows(
         if hop.port == p {
             let flow = hop_flow(net, waits, figures, jitters, h, hop, port);
             jitters[h] = flow.jitter;
-            flows::put_flow(flows, count, flow);
-            count += 1;
+            count = flows::put_flow(flows, count, flow);
         }
         h += 1;
     }
@@ -147,7 +145,7 @@ pub fn all_ports(
     flows: &mut [u64; FLOWS],
     figures: &mut [u64; MOST_HOPS],
 ) -> usize
-    requires { ⌜ PortsAsked (now net) (now waits) (now flows) (now figures) ⌝ }
+    requires { ⌜ PortsAsked (now net) (now waits) (now figures) ⌝ }
     ensures { λ r. ⌜ PortsDone (networkOn (now (net .entry))) r (now (figures .exit)) ⌝ }
 {
     let mut jitters = [0u64; MOST_HOPS];

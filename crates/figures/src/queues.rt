@@ -12,11 +12,11 @@ use network::Vl;
 use sheet::Delays;
 use station::Flow;
 ghost use mathlib.Core.Path.{_≡_};
-ghost use lib.ListN.{length};
 ghost use Rattle.rows.specs.Queues.{queueFlows};
+ghost use Rattle.station.specs.Flat.{flowsIn};
 ghost use Rattle.sheet.specs.Sheet.{networkOn};
 ghost use Rattle.figures.specs.Computing.{QueueRange, VlThere, QueueOf, VlAsked, VlQueues, QueuesAsked, QueuesDone};
-ghost use Rattle.figures.specs.Gathering.{flowOf, Gathered};
+ghost use Rattle.figures.specs.Gathering.{flowOf};
 
 // The flow of a stream of a VL.
 fn queue_flow(d: Delays, stream: Stream, vl: Vl) -> Flow
@@ -32,8 +32,8 @@ fn queue_flow(d: Delays, stream: Stream, vl: Vl) -> Flow
 
 // The flows of sub-link k of VL v: how many they are.
 fn queue_flows(net: &[u64; SHEET], v: usize, vl: Vl, k: usize, flows: &mut [u64; FLOWS]) -> usize
-    requires { ⌜ VlThere (now net) v vl × (length (now flows) ≡ 3072) ⌝ }
-    ensures { λ r. ⌜ Gathered (queueFlows (networkOn (now (net .entry))) v k) (now (flows .exit)) r ⌝ }
+    requires { ⌜ VlThere (now net) v vl ⌝ }
+    ensures { λ r. ⌜ flowsIn (now (flows .exit)) r ≡ queueFlows (networkOn (now (net .entry))) v k ⌝ }
 {
     let d = sheet::delays_of(net);
     let mut count = 0;
@@ -43,8 +43,7 @@ fn queue_flows(net: &[u64; SHEET], v: usize, vl: Vl, k: usize, flows: &mut [u64;
         let stream = sheet::stream_row(net, s);
         if stream.vl == v {
             if stream.sublink == k {
-                flows::put_flow(flows, count, queue_flow(d, stream, vl));
-                count += 1;
+                count = flows::put_flow(flows, count, queue_flow(d, stream, vl));
             }
         }
         s += 1;
@@ -54,8 +53,8 @@ fn queue_flows(net: &[u64; SHEET], v: usize, vl: Vl, k: usize, flows: &mut [u64;
 
 // The queue of sub-link k of VL v.
 fn queue(net: &[u64; SHEET], v: usize, vl: Vl, k: usize, flows: &mut [u64; FLOWS]) -> Outcome
-    requires { ⌜ VlThere (now net) v vl × (length (now flows) ≡ 3072) ⌝ }
-    ensures { λ r. ⌜ QueueOf (networkOn (now (net .entry))) v k r × (length (now (flows .exit)) ≡ 3072) ⌝ }
+    requires { ⌜ VlThere (now net) v vl ⌝ }
+    ensures { λ r. ⌜ QueueOf (networkOn (now (net .entry))) v k r ⌝ }
 {
     let count = queue_flows(net, v, vl, k, flows);
     let o = flows::served(flows, count);
@@ -72,8 +71,8 @@ fn vl_queues(
     flows: &mut [u64; FLOWS],
     queues: &mut [u64; QUEUES],
 ) -> bool
-    requires { ⌜ VlAsked (now net) v (now queues) × (length (now flows) ≡ 3072) ⌝ }
-    ensures { λ r. ⌜ VlQueues (networkOn (now (net .entry))) v r (now (queues .exit)) × (length (now (flows .exit)) ≡ 3072) ⌝ }
+    requires { ⌜ VlAsked (now net) v (now queues) ⌝ }
+    ensures { λ r. ⌜ VlQueues (networkOn (now (net .entry))) v r (now (queues .exit)) ⌝ }
 {
     let vl = sheet::vl_at(net, v);
     let n = vl.sublinks;
@@ -92,8 +91,8 @@ fn vl_queues(
 
 // 9: the first VL with a queue that has no busy length, or their number; the figures, in a list that is zero before.
 pub fn all_queues(net: &[u64; SHEET], flows: &mut [u64; FLOWS], queues: &mut [u64; QUEUES]) -> usize
-    requires { ⌜ QueuesAsked (now net) (now flows) (now queues) ⌝ }
-    ensures { λ r. ⌜ QueuesDone (networkOn (now (net .entry))) r (now (flows .exit)) (now (queues .exit)) ⌝ }
+    requires { ⌜ QueuesAsked (now net) (now queues) ⌝ }
+    ensures { λ r. ⌜ QueuesDone (networkOn (now (net .entry))) r (now (queues .exit)) ⌝ }
 {
     let n = sheet::vls_in(net);
     let mut v = 0;

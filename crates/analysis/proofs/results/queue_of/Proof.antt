@@ -3,6 +3,7 @@
 use mathlib.Core.Path.{ap, ap₂, _∙_}
 use Prim.Native.Nat.{_<_}
 use native.Mathlib.Omega.{arith}
+use Rattle.layout.specs.Limits.{limits}
 use Rattle.network.specs.declared.Stream.{Stream}
 use Rattle.network.specs.Network.{streamAt}
 use Rattle.rows.specs.Queues.{queueFigure}
@@ -14,8 +15,8 @@ use borrow.Author.Needs.{needs}
 use Rattle.analysis.proofs.results.queue_of.Statement.{statement}
 use Rattle.analysis.proofs.results.queue_of.Tie as tie
 
--- the VL is one of 256, and the sub-link one of 4
-known : (c : tie.After-stream-at) → (c .stream-at .result .vl < 256) × (c .stream-at .result .sublink < 4)
+-- the VL is there, and the sub-link one of 4
+known : (c : tie.After-stream-at) → (c .stream-at .result .vl < limits .vls) × (c .stream-at .result .sublink < 4)
 known c =
     let p = c .before .pre in
     (omega (arith, stream-vl (p .good) (c .stream-at .ensures) (p .row), p .good .ranges .few-vls), stream-sub-link (p .good) (c .stream-at .ensures) (p .row) .1)

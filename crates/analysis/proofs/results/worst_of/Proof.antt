@@ -1,9 +1,10 @@
 -- `analysis::results::worst_of` meets its contract: the parts are added up in 01's order.
 -- Assumes nothing.
 use mathlib.Core.Path.{_≡_, ap, _∙_}
-use Prim.Native.Nat.{_≤_, _<_}
+use Prim.Native.Nat.{_*_, _≤_, _<_}
 use native.Mathlib.Omega.{arith}
 use lib.ListN.{length, getD}
+use Rattle.layout.specs.Limits.{limits}
 use Rattle.network.specs.declared.Stream.{Stream}
 use Rattle.network.specs.Network.{streamAt}
 use Rattle.rows.specs.Links.{sendMost, muxWait}
@@ -25,7 +26,7 @@ delays-known c = delays-range (c .before .pre .0 .good) (c .delays-of .ensures)
 vl-there : (c : tie.After-stream-at) → c .stream-at .result .vl < length (networkOn (c .before .before .args .net .now) .vls)
 vl-there c = let p = c .before .before .pre in stream-vl (p .0 .good) (c .stream-at .ensures) (p .1 .stream-there)
 
-few-vls : (c : tie.After-stream-at) → c .stream-at .result .vl < 256
+few-vls : (c : tie.After-stream-at) → c .stream-at .result .vl < limits .vls
 few-vls c = omega (arith, vl-there c, c .before .before .pre .0 .good .ranges .few-vls)
 
 -- the mux wait of the stream's VL
@@ -33,7 +34,7 @@ waited : (c : tie.After-sent) →
     let net = networkOn (c .before .before .before .before .before .args .net .now) in
     let waits = c .before .before .before .before .before .args .waits .now in
     (getD waits (c .before .before .before .stream-at .result .vl) 0 ≡ muxWait net (streamAt net (c .before .before .before .before .before .args .s) .vl))
-    × (getD waits (c .before .before .before .stream-at .result .vl) 0 ≤ 3937280)
+    × (getD waits (c .before .before .before .stream-at .result .vl) 0 ≤ 4095 * 15380)
 waited c =
     let start = c .before .before .before .before .before in
     let net = networkOn (start .args .net .now) in

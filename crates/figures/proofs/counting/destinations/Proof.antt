@@ -5,6 +5,7 @@ use mathlib.Core.Path.{refl, sym, ap, _∙_}
 use Prim.Native.Nat.{_+_, _-_, _≤_, _<_}
 use native.Mathlib.Omega.{arith}
 use lib.ListN.{length}
+use Rattle.layout.specs.Limits.{limits}
 use Rattle.network.specs.declared.Hop.{Hop}
 use Rattle.sheet.specs.Sheet.{networkOn}
 use Rattle.sheet.proofs.LeafLaws.{leaf-read}
@@ -22,9 +23,9 @@ abbrev μ-loop : tie.MeasureT-loop
 μ-loop net leaves counts₀ n h₀ counts h = n - h
 
 loop-holds : tie.Need-loop-holds Inv-loop μ-loop
-loop-holds c = (omega arith, counts-none _ _ refl (zeros-at 256))
+loop-holds c = (omega arith, counts-none _ _ refl (zeros-at (limits .vls)))
 
-vl-there : (c : tie.After-hop-row Inv-loop μ-loop) → c .hop-row .result .vl < 256
+vl-there : (c : tie.After-hop-row Inv-loop μ-loop) → c .hop-row .result .vl < limits .vls
 vl-there c =
     let start = c .before .before .before .before .before .before in
     let l = c .before .before .before .before .loop in

@@ -6,6 +6,7 @@ use Prim.Native.Nat.{ℕ, _-_, _*_, _≤_, _<_}
 use native.Mathlib.Omega.{arith}
 use lib.ListN.{length, getD}
 use Rattle.base.proofs.TabulateLaws.{tabulate-at}
+use Rattle.layout.specs.Limits.{limits}
 use Rattle.network.specs.declared.Stream.{Stream}
 use Rattle.network.specs.Network.{streamAt}
 use Rattle.network.specs.Views.{leavesOf}
@@ -18,7 +19,7 @@ use Rattle.figures.proofs.counting.row_count.Statement.{statement}
 use Rattle.figures.proofs.counting.row_count.Tie as tie
 
 abbrev Inv-loop : tie.InvT-loop
-Inv-loop net counts n count₀ s₀ count s = (s ≤ n) × (count ≤ s * 1024) × (count ≡ length (rowsTo (networkOn net) s))
+Inv-loop net counts n count₀ s₀ count s = (s ≤ n) × (count ≤ s * 4095) × (count ≡ length (rowsTo (networkOn net) s))
 
 abbrev μ-loop : tie.MeasureT-loop
 μ-loop net counts n count₀ s₀ count s = n - s
@@ -27,8 +28,8 @@ loop-holds : tie.Need-loop-holds Inv-loop μ-loop
 unfolding rowsTo
 loop-holds c = omega arith
 
--- the stream's VL is one of 256, and its destinations are counted
-vl-there : (c : tie.After-stream-row Inv-loop μ-loop) → c .stream-row .result .vl < 256
+-- the stream's VL is there, and its destinations are counted
+vl-there : (c : tie.After-stream-row Inv-loop μ-loop) → c .stream-row .result .vl < limits .vls
 vl-there c =
     let start = c .before .before .before .before .before .before .before in
     let good = start .pre in
@@ -38,7 +39,7 @@ vl-there c =
 counted : (c : tie.After-stream-row Inv-loop μ-loop) →
     let net = networkOn (c .before .before .before .before .before .before .before .args .net .now) in
     let count = getD (c .before .before .before .before .destinations .result) (c .stream-row .result .vl) 0 in
-    (count ≡ length (leavesOf net (streamAt net (c .before .before .loop .s) .vl))) × (count ≤ 1024)
+    (count ≡ length (leavesOf net (streamAt net (c .before .before .loop .s) .vl))) × (count ≤ 4095)
 counted c =
     let start = c .before .before .before .before .before .before .before in
     let good = start .pre in
@@ -47,7 +48,7 @@ counted c =
     let row : s < length (net .streams) = omega arith in
     let is = ap (λ (x : Stream). x .vl) (stream-walked good (c .stream-row .ensures) row) in
     let v = c .stream-row .result .vl in
-    let count = ap (λ (l : List ℕ). getD l v 0) (c .before .before .before .before .destinations .ensures) ∙ tabulate-at (λ v. length (leavesOf net v)) 256 v 0 (vl-there c) in
+    let count = ap (λ (l : List ℕ). getD l v 0) (c .before .before .before .before .destinations .ensures) ∙ tabulate-at (λ v. length (leavesOf net v)) (limits .vls) v 0 (vl-there c) in
     (count ∙ ap (λ (u : ℕ). length (leavesOf net u)) is, omega (arith, count, few-leaves net v, good .ranges .few-hops))
 
 mul-count : tie.Need-mul-count Inv-loop μ-loop

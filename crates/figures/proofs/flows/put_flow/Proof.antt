@@ -1,7 +1,7 @@
 -- `figures::flows::put_flow` meets its contract: three numbers, put behind those of the first i flows.
 -- Assumes nothing.
-use mathlib.Core.Path.{_∙_}
 use native.Mathlib.Omega.{arith}
+use lib.ListN.{length-set}
 use Rattle.station.proofs.FlatLaws.{length-with-flow, flows-in-with-flow}
 use borrow.Author.Needs.{needs}
 use Rattle.figures.proofs.flows.put_flow.Statement.{statement}
@@ -10,7 +10,7 @@ use Rattle.figures.proofs.flows.put_flow.Tie as tie
 returns : tie.Need-returns
 returns c =
     let a = c .args in
-    (length-with-flow (a .flows .now) (a .i) (a .f) ∙ c .pre .0, flows-in-with-flow (a .flows .now) (a .i) (a .f) (omega (arith, c .pre .0, c .pre .1)))
+    flows-in-with-flow (a .flows .now) (a .i) (a .f) (c .pre)
 
 pub put-flow-spec : {M : Type 1} → statement M
 put-flow-spec =
@@ -22,9 +22,11 @@ put-flow-spec =
     (λ c. search needs)
     (λ c. search needs)
     (λ c. search needs)
+    (λ c. simp length-set (omega (arith, c .pre)))
     (λ c. search needs)
     (λ c. search needs)
     (λ c. search needs)
+    (λ c. simp length-set (omega (arith, c .pre)))
     (λ c. search needs)
-    (λ c. search needs)
+    (λ c. length-with-flow (c .args .flows .now) (c .args .i) (c .args .f))
     returns)

@@ -2,7 +2,9 @@
 -- Assumes nothing.
 use mathlib.Core.Path.{_≡_, sym, ap, _∙_}
 use native.Mathlib.Omega.{arith}
+use Prim.Native.Nat.{_*_}
 use lib.ListN.{length}
+use Rattle.layout.specs.Limits.{limits}
 use Rattle.layout.specs.Sizes.{place}
 use Rattle.layout.proofs.SizeLaws.{places-are}
 use Rattle.table.specs.declared.Answer.{Answer}
@@ -33,9 +35,9 @@ returns c =
     let number = ap (λ (x : Answer). x .number) is in
     refused-leaves (a .table .now) (a .room) _ _ _ _ _ (answer-read (a .table .now) (a .room) _ is (c .if1 .taken)) (c .if1 .taken)
     (sheet-cleared (a .table .now) _ (read .read .ensures .1) (omega (arith, number, c .if1 .taken)))
-    (cleared _ (length (a .waits .now)) 256 (c .before .before .before .before .before .before .before .before .clear .ensures) (omega (arith, c .before .before .before .before .before .before .before .before .before .clear-arg .given)))
-    (cleared _ (length (a .queues .now)) 1024 (c .before .before .before .before .before .before .clear2 .ensures) (omega (arith, c .before .before .before .before .before .before .before .clear-arg2 .given)))
-    (cleared _ (length (a .hops .now)) 1024 (c .before .before .before .before .clear3 .ensures) (omega (arith, c .before .before .before .before .before .clear-arg3 .given)))
+    (cleared _ (length (a .waits .now)) (limits .vls) (c .before .before .before .before .before .before .before .before .clear .ensures) (omega (arith, c .before .before .before .before .before .before .before .before .before .clear-arg .given)))
+    (cleared _ (length (a .queues .now)) (limits .vls * 4) (c .before .before .before .before .before .before .clear2 .ensures) (omega (arith, c .before .before .before .before .before .before .before .clear-arg2 .given)))
+    (cleared _ (length (a .hops .now)) (limits .hops) (c .before .before .before .before .clear3 .ensures) (omega (arith, c .before .before .before .before .before .clear-arg3 .given)))
 
 judge-requires : tie.Need-judge-requires
 judge-requires c κs =
@@ -44,9 +46,9 @@ judge-requires c κs =
     let a = start-at read .args in
     record {
       good = good-sheet (start-at read .args .table .now) _ (accepted-there past) (read .read .ensures .1) .1;
-      no-waits = cleared _ (length (a .waits .now)) 256 (c .before .before .before .before .before .before .before .before .before .before .before .before .clear .ensures) (omega (arith, c .before .before .before .before .before .before .before .before .before .before .before .before .before .clear-arg .given));
-      no-queues = cleared _ (length (a .queues .now)) 1024 (c .before .before .before .before .before .before .before .before .before .before .clear2 .ensures) (omega (arith, c .before .before .before .before .before .before .before .before .before .before .before .clear-arg2 .given));
-      no-hops = cleared _ (length (a .hops .now)) 1024 (c .before .before .before .before .before .before .before .before .clear3 .ensures) (omega (arith, c .before .before .before .before .before .before .before .before .before .clear-arg3 .given));
+      no-waits = cleared _ (length (a .waits .now)) (limits .vls) (c .before .before .before .before .before .before .before .before .before .before .before .before .clear .ensures) (omega (arith, c .before .before .before .before .before .before .before .before .before .before .before .before .before .clear-arg .given));
+      no-queues = cleared _ (length (a .queues .now)) (limits .vls * 4) (c .before .before .before .before .before .before .before .before .before .before .clear2 .ensures) (omega (arith, c .before .before .before .before .before .before .before .before .before .before .before .clear-arg2 .given));
+      no-hops = cleared _ (length (a .hops .now)) (limits .hops) (c .before .before .before .before .before .before .before .before .clear3 .ensures) (omega (arith, c .before .before .before .before .before .before .before .before .before .clear-arg3 .given));
     }
 
 returns-2 : tie.Need-returns-2
@@ -58,9 +60,9 @@ returns-2 c =
     let good = good-sheet (a .table .now) _ (accepted-there past) (read .read .ensures .1) in
     refused-leaves (a .table .now) (a .room) _ _ _ _ _ (answer-judged (a .table .now) _ (a .room) _ (number-0 past) (good .0) (c .before .before .before .before .before .before .before .before .before .before .judge .ensures .answer-is)) (c .before .before .before .before .before .before .before .before .if2 .taken)
     (cleared _ (length (read .read .last .1 .0)) (place 6) (c .before .before .before .before .before .before .clear4 .ensures) (omega (arith, c .before .before .before .before .before .before .before .clear-arg4 .given, places-are .end)))
-    (cleared _ (length (judged .last .1 .1 .0)) 256 (c .before .before .before .before .clear5 .ensures) (omega (arith, c .before .before .before .before .before .clear-arg5 .given)))
-    (cleared _ (length (judged .last .1 .1 .1 .0)) 1024 (c .before .before .clear6 .ensures) (omega (arith, c .before .before .before .clear-arg6 .given)))
-    (cleared _ (length (judged .last .1 .1 .1 .1 .0)) 1024 (c .clear7 .ensures) (omega (arith, c .before .clear-arg7 .given)))
+    (cleared _ (length (judged .last .1 .1 .0)) (limits .vls) (c .before .before .before .before .clear5 .ensures) (omega (arith, c .before .before .before .before .before .clear-arg5 .given)))
+    (cleared _ (length (judged .last .1 .1 .1 .0)) (limits .vls * 4) (c .before .before .clear6 .ensures) (omega (arith, c .before .before .before .clear-arg6 .given)))
+    (cleared _ (length (judged .last .1 .1 .1 .1 .0)) (limits .hops) (c .clear7 .ensures) (omega (arith, c .before .clear-arg7 .given)))
 
 returns-3 : tie.Need-returns-3
 returns-3 c =

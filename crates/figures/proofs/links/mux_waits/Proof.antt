@@ -5,6 +5,7 @@ use mathlib.Core.List.{List}
 use mathlib.Core.Path.{_≡_, ap, _∙_}
 use native.Mathlib.Omega.{arith}
 use lib.ListN.{set}
+use Rattle.layout.specs.Limits.{limits}
 use Rattle.rows.specs.Links.{muxWait}
 use Rattle.sheet.specs.Sheet.{networkOn}
 use Rattle.figures.specs.Figures.{waitsOf}
@@ -15,25 +16,25 @@ use Rattle.figures.proofs.links.mux_waits.Statement.{statement}
 use Rattle.figures.proofs.links.mux_waits.Tie as tie
 
 abbrev Inv-loop : tie.InvT-loop
-Inv-loop net waits₀ n v₀ waits v = (v ≤ n) × (waits ≡ noted (muxWait (networkOn net)) 256 v)
+Inv-loop net waits₀ n v₀ waits v = (v ≤ n) × (waits ≡ noted (muxWait (networkOn net)) (limits .vls) v)
 
 abbrev μ-loop : tie.MeasureT-loop
 μ-loop net waits₀ n v₀ waits v = n - v
 
 loop-holds : tie.Need-loop-holds Inv-loop μ-loop
-loop-holds c = (omega arith, c .before .pre .1 ∙ noted-none _ 256)
+loop-holds c = (omega arith, c .before .pre .1 ∙ noted-none _ (limits .vls))
 
 loop-again : tie.Need-loop-again Inv-loop μ-loop
 loop-again c =
     let l = c .before .before .loop in
     let wait = c .mux-wait .result in
-    (omega arith, ap (λ (ws : List ℕ). set ws (l .v) wait) (l .inv .1) ∙ noted-more _ 256 (l .v) wait (omega arith) (c .mux-wait .ensures))
+    (omega arith, ap (λ (ws : List ℕ). set ws (l .v) wait) (l .inv .1) ∙ noted-more _ (limits .vls) (l .v) wait (omega arith) (c .mux-wait .ensures))
 
 returns : tie.Need-returns Inv-loop μ-loop
 unfolding waitsOf
 returns c =
     let l = c .before .loop in
-    l .inv .1 ∙ ap (noted (muxWait (networkOn (c .before .before .before .args .net .now))) 256) (omega arith)
+    l .inv .1 ∙ ap (noted (muxWait (networkOn (c .before .before .before .args .net .now))) (limits .vls)) (omega arith)
 
 pub mux-waits-spec : {M : Type 1} → statement M
 mux-waits-spec =

@@ -5,6 +5,7 @@ use mathlib.Core.Path.{sym, ap, _∙_}
 use Prim.Native.Nat.{_+_, _-_, _≤_, _<_}
 use native.Mathlib.Omega.{arith}
 use lib.ListN.{length}
+use Rattle.layout.specs.Limits.{limits}
 use Rattle.network.specs.declared.Hop.{Hop}
 use Rattle.rows.specs.Ports.{figureOf}
 use Rattle.sheet.specs.Sheet.{networkOn}
@@ -31,7 +32,7 @@ loop-again c =
     let l = c .before .before .before .before .loop in
     let row : l .h < length (net .hops) = omega arith in
     let on = ap (λ (x : Hop). x .port) (c .before .before .hop-row .ensures ∙ hop-row sheet (l .h) row) in
-    let few : l .h < 1024 = omega arith in (
+    let few : l .h < limits .hops = omega arith in (
       omega arith,
       ⊎-elim {C = NotedTo net (figureOf net) (start .args .p) (l .h + 1) (c .if1 .figures)}
           (λ w.

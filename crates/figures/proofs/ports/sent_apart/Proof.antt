@@ -1,10 +1,11 @@
 -- `figures::ports::sent_apart` meets its contract: the mux wait that is noted, and what is between the VL's frames on the end system's link.
 -- Assumes nothing.
-use Prim.Native.Nat.{ℕ, _+_, _≤_}
+use Prim.Native.Nat.{ℕ, _+_, _*_, _≤_}
 use mathlib.Core.List.{List}
 use mathlib.Core.Path.{_≡_, ap, _∙_}
 use native.Mathlib.Omega.{arith}
 use lib.ListN.{getD}
+use Rattle.layout.specs.Limits.{limits}
 use Rattle.rows.specs.Links.{muxWait}
 use Rattle.sheet.specs.Sheet.{networkOn}
 use Rattle.figures.specs.Figures.{waitsOf}
@@ -22,11 +23,11 @@ wait-noted : (c : tie.After-frame-spread) →
 unfolding waitsOf
 wait-noted c =
     let start = c .before .before .before .before in
-    ap (λ (ws : List ℕ). getD ws (start .args .v) 0) (start .pre .waits-are) ∙ noted-at (muxWait (networkOn (start .args .net .now))) 256 _ (start .args .v) (start .pre .row)
+    ap (λ (ws : List ℕ). getD ws (start .args .v) 0) (start .pre .waits-are) ∙ noted-at (muxWait (networkOn (start .args .net .now))) (limits .vls) _ (start .args .v) (start .pre .row)
 
 apart : (c : tie.After-frame-spread) →
     let start = c .before .before .before .before in
-    getD (start .args .waits .now) (start .args .v) 0 + c .frame-spread .result ≤ 3955000
+    getD (start .args .waits .now) (start .args .v) 0 + c .frame-spread .result ≤ 4096 * 15380
 apart c =
     let start = c .before .before .before .before in
     let good = start .pre .good in

@@ -5,8 +5,8 @@ use mathlib.Core.Bool.{false}
 use mathlib.Core.Path.{_≡_, sym, ap, _∙_}
 use native.Mathlib.Omega.{arith}
 use borrow.Author.Count.{below-more}
-use lib.ListN.{length}
 use Rattle.base.specs.Tests.{isSome}
+use Rattle.layout.specs.Limits.{limits}
 use Rattle.rows.specs.Refusals.{endlessSubLink}
 use Rattle.sheet.specs.Sheet.{networkOn}
 use Rattle.figures.specs.Figures.{queueAt, queuesOf}
@@ -20,29 +20,27 @@ abbrev Inv-loop : tie.InvT-loop
 Inv-loop net flows₀ queues₀ n v₀ flows queues v =
     (v ≤ n)
     × ((i : ℕ) → i < v → isSome (endlessSubLink (networkOn net) i) ≡ false)
-    × (queues ≡ noted (queueAt (networkOn net)) 1024 (v * 4))
-    × (length flows ≡ 3072)
+    × (queues ≡ noted (queueAt (networkOn net)) (limits .vls * 4) (v * 4))
 
 abbrev μ-loop : tie.MeasureT-loop
 μ-loop net flows₀ queues₀ n v₀ flows queues v = n - v
 
 loop-holds : tie.Need-loop-holds Inv-loop μ-loop
-loop-holds c = let p = c .before .pre in (omega arith, (λ i h. absurd (omega arith)), p .no-queues ∙ noted-none _ 1024, p .long)
+loop-holds c = let p = c .before .pre in (omega arith, (λ i h. absurd (omega arith)), p .no-queues ∙ noted-none _ (limits .vls * 4))
 
 vl-queues-requires : tie.Need-vl-queues-requires Inv-loop μ-loop
 vl-queues-requires c κs =
     let start = c .before .before .before .before .before in
     let l = c .before .before .before .loop in
-    (record { good = start .pre .good; row = omega arith; before = l .inv .2 }, l .inv .3)
+    record { good = start .pre .good; row = omega arith; before = l .inv .2 }
 
 returns : tie.Need-returns Inv-loop μ-loop
 returns c =
     let l = c .before .before .before .before .before .loop in
     let q = c .before .vl-queues .ensures in
     record {
-      first = record { inside = omega arith; before = l .inv .1; there = λ h. sym (q .0 .endless-is) ∙ c .if1 .taken };
+      first = record { inside = omega arith; before = l .inv .1; there = λ h. sym (q .endless-is) ∙ c .if1 .taken };
       queues-are = λ h. absurd (omega arith);
-      long = q .1;
     }
 
 loop-again : tie.Need-loop-again Inv-loop μ-loop
@@ -51,7 +49,7 @@ loop-again c =
     let q = c .before .vl-queues .ensures in
     let net = networkOn (c .before .before .before .before .before .before .before .args .net .now) in
     let next : l .v * 4 + 4 ≡ (l .v + 1) * 4 = omega arith in
-    (omega arith, below-more _ _ (l .inv .1) (sym (q .0 .endless-is) ∙ c .if1 .left), q .0 .after (c .if1 .left) ∙ ap (noted (queueAt net) 1024) next, q .1)
+    (omega arith, below-more _ _ (l .inv .1) (sym (q .endless-is) ∙ c .if1 .left), q .after (c .if1 .left) ∙ ap (noted (queueAt net) (limits .vls * 4)) next)
 
 returns-2 : tie.Need-returns-2 Inv-loop μ-loop
 unfolding queuesOf
@@ -60,8 +58,7 @@ returns-2 c =
     let net = networkOn (c .before .before .before .args .net .now) in
     record {
       first = record { inside = omega arith; before = λ i h. l .inv .1 i (omega arith); there = λ h. absurd (omega arith) };
-      queues-are = λ h. l .inv .2 ∙ ap (λ (n : ℕ). noted (queueAt net) 1024 (n * 4)) (omega arith);
-      long = l .inv .3;
+      queues-are = λ h. l .inv .2 ∙ ap (λ (n : ℕ). noted (queueAt net) (limits .vls * 4) (n * 4)) (omega arith);
     }
 
 pub all-queues-spec : {M : Type 1} → statement M

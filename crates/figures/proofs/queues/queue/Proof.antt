@@ -12,14 +12,14 @@ use Rattle.figures.proofs.queues.queue.Tie as tie
 served-requires : tie.Need-served-requires
 served-requires c κs =
     let f = c .before .queue-flows .ensures in
-    let good = c .before .before .before .pre .0 .good in
-    (f .few, rw (f .front) (queue-offered _ (good .ranges) (good .references) _ _))
+    let good = c .before .before .before .pre .good in
+    rw f (queue-offered _ (good .ranges) (good .references) _ _)
 
 returns : tie.Need-returns
 returns c =
     let f = c .before .before .before .queue-flows .ensures in
     let start = c .before .before .before .before .before in
-    (queue-found _ _ _ (rules-on _) _ _ _ _ _ f (c .before .served .ensures) (ap (λ (x : Vl). x .gap) (start .pre .0 .is)) (c .less .ensures), f .long)
+    queue-found _ _ _ (rules-on _) _ _ _ _ _ f (c .before .served .ensures) (ap (λ (x : Vl). x .gap) (start .pre .is)) (c .less .ensures)
 
 pub queue-spec : {M : Type 1} → statement M
 queue-spec =
