@@ -148,25 +148,118 @@ test_unpack_of_a_refused_table_is_its_refusal() {
     [ "$status" -eq 2 ] || no "status $status, not 2, on a full disk"
 }
 
-test_pack_says_what_is_wrong() {
-    printf 'delays 1 2 3\n' >bad.txt
+# ---- what pack says (examples/README.md): each sentence whole, with the text that earns it
+says() { # SENTENCE, of bad.txt
     gives 1 pack bad.txt
     silent
-    sentence '^pack: line 1: receive delay greatest is missing$'
+    printf 'pack: %s\n' "$1" >wanted
+    same err wanted "the sentence '$1'"
+}
+
+behind_delays() { # LINE SENTENCE: the line stands behind one of delays
+    printf 'delays 0 0 0 0\n%b\n' "$1" >bad.txt
+    says "line 2: $2"
+}
+
+test_pack_says_what_is_wrong_with_a_line() {
+    words='a line begins with delays, system, vl, stream, port, hop or version, not'
     sed 's/^vl /vlan /' "$examples/whole-case.txt" >bad.txt
-    gives 1 pack bad.txt
-    silent
-    sentence '^pack: line 10: a line begins with delays, system, vl, stream, port, hop or version, not "vlan"$'
+    says "line 10: $words \"vlan\""
+    printf '\n# a comment\r\ndelays 1 2 3 # 4\r\nvlan\n' >bad.txt
+    says 'line 3: receive delay greatest is missing'
+    behind_delays 'vl 0 1' 'sub-links is missing'
+    behind_delays 'version' 'version is missing'
+    behind_delays 'hop 0 0' 'parent is missing'
+    behind_delays 'vl 0 1 -1 64' 'sub-links is not a number: "-1"'
+    behind_delays 'version one' 'version is not a number: "one"'
+    behind_delays 'stream 0 0 queued 1 1 12500 0' 'kind is queuing or sampling, not "queued"'
+    parent='parent is none, or after and a row of the hops, not'
+    behind_delays 'hop 0 0 before 2' "$parent \"before\""
+    behind_delays 'hop 0 0 after' "$parent \"after\""
+    behind_delays 'hop 0 0 after none' "$parent \"after\""
+    behind_delays 'vl 0 1 1 64 5 6' 'more words than a line of vl has: "5"'
+    behind_delays 'hop 0 0 after 1 2' 'more words than a line of hop has: "2"'
+    behind_delays 'version 1 1' 'more words than a line of version has: "1"'
+}
+
+test_pack_says_how_many_lines_there_are_at_most() {
+    behind_delays 'delays 0 0 0 0' 'a second line of delays'
+    printf 'version 1\ndelays 0 0 0 0\nversion 1\n' >bad.txt
+    says 'line 3: a second line of version'
+    for most in 'system 64 system 100' 'vl 256 vl 0 1 1 64' 'stream 512 stream 0 0 queuing 1 1 12500 0' 'port 128 port 100 0 0' \
+        'hop 1024 hop 0 0 none'; do
+        keyword=${most%% *}
+        most=${most#* }
+        count=${most%% *}
+        awk -v line="${most#* }" -v n="$count" 'BEGIN { print "delays 0 0 0 0"; for (i = 0; i < n; i++) print line }' >bad.txt
+        gives 0 pack bad.txt
+        printf '%s\n' "${most#* }" >>bad.txt
+        says "line $((count + 2)): more than $count $keyword lines"
+    done
+    printf 'vl 0 1 1\n' >>bad.txt
+    says 'line 1026: more than 1024 hop lines'
+    awk 'BEGIN { print "delays 0 0 0 0"; for (i = 0; i < 256; i++) print "vl 0 1 1 64"; print "vl 0 1 1" }' >bad.txt
+    says 'line 258: Lmax is missing'
+    printf 'system 100\n' >bad.txt
+    says 'there is no line of delays'
+    : >bad.txt
+    says 'there is no line of delays'
+    awk 'BEGIN { print "delays 0 0 0 0"; for (i = 15; i < 262144; i++) printf "#" }' >bad.txt
+    gives 0 pack bad.txt
+    same out "$examples/empty.tbl"
+    printf '#' >>bad.txt
+    says 'the text is longer than 262144 bytes'
+}
+
+test_pack_says_which_number_no_table_can_hold() {
     sed 's/250000/12499/' "$examples/whole-case.txt" >bad.txt
-    gives 1 pack bad.txt
-    silent
-    sentence '^pack: line 14: period is 12500 to 125000000, not as given$'
-    gives 1 pack "$examples/whole-case.tbl"
-    silent
-    awk 'BEGIN { for (i = 0; i < 262144; i++) printf "#"; print "" }' >long.txt
-    gives 1 pack long.txt
-    silent
-    sentence 'longer than 262144 bytes'
+    says 'line 14: period is 12500 to 125000000, not "12499"'
+    printf 'version 2\ndelays 0 0 0 0\n' >bad.txt
+    says 'line 1: version is 1, not "2"'
+    behind_delays 'version 0' 'version is 1, not "0"'
+    printf '# first\ndelays 0 0 0 1876\n' >bad.txt
+    says 'line 2: receive delay greatest is 0 to 1875, not "1876"'
+    behind_delays 'system 99' 'speed is 100 or 10, not "99"'
+    behind_delays 'vl 0 3 1 64' 'gap is 1, 2, 4, 8, 16, 32, 64 or 128, not "3"'
+    behind_delays 'vl 0 1 5 64' 'sub-links is 1 to 4, not "5"'
+    behind_delays 'vl 0 1 1 63' 'Lmax is 64 to 1518, not "63"'
+    behind_delays 'stream 4096 0 queuing 1 1 12500 0' 'VL is at most 4095, not "4096"'
+    behind_delays 'stream 0 4 queuing 1 1 12500 0' 'sub-link is at most 3, not "4"'
+    behind_delays 'port 10 1251 0' 'switch delay least is 0 to 1250, not "1251"'
+    parent='parent is none, or after and a row below 4095, not'
+    behind_delays 'hop 0 0 after 4095' "$parent \"4095\""
+    printf 'hop 0 0 none\nhop 0 1 after \t 04095#0\ndelays 0 0 0 0' >bad.txt
+    says "line 2: $parent \"04095\""
+    behind_delays 'hop 0 0 after 18446744073709551616' "$parent \"18446744073709551616\""
+    behind_delays 'system 18446744073709551716' 'speed is 100 or 10, not "18446744073709551716"'
+    printf 'delays 0 0 0 0\nhop 0 0 after 4094\n' >good.txt
+    gives 0 pack good.txt
+}
+
+test_pack_says_which_pair_is_not_in_order() {
+    behind_delays 'stream 0 0 queuing 1 2 12500 0' 'least M is above M'
+    behind_delays 'port 100 1 0' 'switch delay least is above switch delay greatest'
+    printf 'delays 1 0 1 0\nsystem 99\n' >bad.txt
+    says 'line 1: send delay least is above send delay greatest'
+    printf 'system 99\ndelays 0 0 1 0\n' >bad.txt
+    says 'line 2: receive delay least is above receive delay greatest'
+}
+
+test_pack_shows_a_word_as_the_text_has_it() {
+    words='line 1: a line begins with delays, system, vl, stream, port, hop or version, not'
+    printf 'v\001l\000\033\037\177\200\377"\n' >bad.txt
+    says "$(printf '%s "v?l????\200\377""' "$words")"
+    printf '1234567890123456789012345678901234567890\n' >bad.txt
+    says "$words \"1234567890123456789012345678901234567890\""
+    printf '12345678901234567890123456789012345678901\n' >bad.txt
+    says "$words \"1234567890123456789012345678901234567890\""
+    behind_delays 'system 12345678901234567890123456789012345678901' \
+        'speed is 100 or 10, not "1234567890123456789012345678901234567890"'
+    cp "$examples/whole-case.tbl" bad.txt
+    says "$words \"???\""
+}
+
+test_pack_of_what_is_no_file_or_goes_nowhere() {
     gives 2 pack nosuch.txt
     silent
     status=0

@@ -12,7 +12,7 @@ use parser::Fault;
 use parser::Mistake;
 
 // Field k of a line: those of the delays and the version are the header's.
-fn shape_of(version: u64, section: usize, k: usize) -> Shape {
+pub(crate) fn shape_of(version: u64, section: usize, k: usize) -> Shape {
     match section {
         0 => match k {
             0 => layout::shape_at(0, places::SEND_LEAST),
@@ -34,7 +34,7 @@ fn put_form(line: &mut [u8], at: usize, name: Name) -> usize {
             at,
             b" is none, or after and a row of the hops, not ",
         ),
-        _ => text::put_bytes(line, at, b" is missing or not a number: "),
+        _ => text::put_bytes(line, at, b" is not a number: "),
     }
 }
 

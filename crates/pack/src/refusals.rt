@@ -1,19 +1,30 @@
-// The sentence of a table that the writer refuses: the line of the record, and what its field has to be.
-// The line is found by a second walk over the text, since lists of numbers do not tell it.
+// The sentence of a table that the writer refuses: the line of the record, what its field has to be, and the word that is there.
+// Line and word are found by a second walk over the text, since lists of numbers do not tell them.
+use crate::mistakes::shape_of;
 use crate::names::put_keyword;
 use crate::names::put_name;
 use crate::names::put_start;
+use crate::names::put_word;
 use layout::Kind;
 use layout::Name;
 use layout::Shape;
+use layout::places;
 use layout::sizes::MOST_SUBLINKS;
 use table::Answer;
+use words::Span;
 
 // The longest word that begins a line.
 const KEYWORD: usize = 7;
 
-// The line of record `row` of those that begin with this word, from 1; the last one where there are fewer.
-fn line_of(given: &[u8], keyword: &[u8], row: u64) -> usize {
+// A line of a text: its number from 1, and from where to before which place it goes.
+struct Line {
+    number: usize,
+    from: usize,
+    to: usize,
+}
+
+// The line of record `row` of those that begin with this word; the last one where there are fewer.
+fn line_of(given: &[u8], keyword: &[u8], row: u64) -> Line {
     let n = given.len();
     let mut at = 0;
     let mut number = 0;
@@ -23,28 +34,62 @@ fn line_of(given: &[u8], keyword: &[u8], row: u64) -> usize {
         number += 1;
         if words::is_word(given, words::word_at(given, at, end), keyword) {
             if left == 0 {
-                return number;
+                return Line {
+                    number: number,
+                    from: at,
+                    to: end,
+                };
             }
             left -= 1;
         }
-        if end < at {
-            return number;
-        }
         if n <= end {
-            return number;
+            return Line {
+                number: number,
+                from: at,
+                to: end,
+            };
         }
         at = end + 1;
     }
-    number
+    Line {
+        number: number,
+        from: n,
+        to: n,
+    }
 }
 
-fn line_in(given: &[u8], section: usize, row: u64) -> usize {
+fn line_in(given: &[u8], section: usize, row: u64) -> Line {
     let mut keyword = [0u8; KEYWORD];
     let used = put_keyword(&mut keyword, 0, section);
     if KEYWORD < used {
-        return 0;
+        return line_of(given, &keyword, row);
     }
     line_of(given, &keyword[0..used], row)
+}
+
+// The word behind another, where the field has one: a field of 0 bits has none.
+fn word_behind(given: &[u8], word: Span, end: usize, s: Shape) -> Span {
+    let width = s.width;
+    if width == 0 {
+        return word;
+    }
+    words::word_at(given, word.to, end)
+}
+
+// The last word of field k of a line: of a parent the row behind `after`.
+fn word_of(given: &[u8], line: Line, version: u64, section: usize, k: usize) -> Span {
+    let end = line.to;
+    let mut word = words::word_at(given, line.from, end);
+    for i in 0..k {
+        word = word_behind(given, word, end, shape_of(version, section, i));
+    }
+    let s = shape_of(version, section, k);
+    word = word_behind(given, word, end, s);
+    let name = s.name;
+    if let Name::Parent = name {
+        return words::word_at(given, word.to, end);
+    }
+    word
 }
 
 // The section by whose lines a record is found: the header's version and delays have each a line.
@@ -56,6 +101,17 @@ fn section_of(section: u64, test: u64) -> usize {
         return 6;
     }
     0
+}
+
+// The field of such a line that a test is of: the delays stand behind the header's counts.
+fn field_of(section: usize, test: usize) -> usize {
+    if 0 < section {
+        return test;
+    }
+    if test < places::SEND_LEAST {
+        return 0;
+    }
+    test - places::SEND_LEAST
 }
 
 fn put_between(line: &mut [u8], at: usize, low: u64, high: u64) -> usize {
@@ -109,26 +165,48 @@ fn put_order(line: &mut [u8], at: usize, kind: usize, k: usize) -> usize {
     text::put_byte(line, c, b'\n')
 }
 
-// The fields' tests come first, then those of the pairs.
-fn put_test(line: &mut [u8], at: usize, kind: usize, test: usize) -> usize {
-    let n = layout::fields_in(kind);
-    if test < n {
-        let s = layout::shape_at(kind, test);
-        let name = s.name;
-        let named = put_name(line, at, name);
-        let behind = put_range(line, named, s);
-        return text::put_bytes(line, behind, b", not as given\n");
-    }
-    put_order(line, at, kind, test - n)
+// What a field has to be, and the word that is there instead.
+fn put_field(
+    line: &mut [u8],
+    at: usize,
+    given: &[u8],
+    record: Line,
+    version: u64,
+    section: usize,
+    k: usize,
+) -> usize {
+    let s = shape_of(version, section, k);
+    let name = s.name;
+    let named = put_name(line, at, name);
+    let ranged = put_range(line, named, s);
+    let behind = text::put_bytes(line, ranged, b", not ");
+    let word = word_of(given, record, version, section, k);
+    let end = put_word(line, behind, given, word.from, word.to);
+    text::put_byte(line, end, b'\n')
 }
 
+// The fields' tests come first, then those of the pairs.
 pub(crate) fn put_refusal(line: &mut [u8], given: &[u8], version: u64, answer: Answer) -> usize {
     let number = answer.number;
     if 4 < number {
         return text::put_bytes(line, 0, b"pack: the table is too long\n");
     }
-    let section = section_of(answer.section, answer.test);
-    let at = put_start(line, line_in(given, section, answer.row));
     let kind = layout::kind_of(version, answer.section as usize);
-    put_test(line, at, kind, answer.test as usize)
+    let test = answer.test as usize;
+    let section = section_of(answer.section, answer.test);
+    let record = line_in(given, section, answer.row);
+    let at = put_start(line, record.number);
+    let n = layout::fields_in(kind);
+    if test < n {
+        return put_field(
+            line,
+            at,
+            given,
+            record,
+            version,
+            section,
+            field_of(section, test),
+        );
+    }
+    put_order(line, at, kind, test - n)
 }

@@ -2,6 +2,8 @@
 -- Assumes nothing.
 use borrow.Author.Needs.{needs}
 use Prim.Native.Nat.{_-_, _≤_}
+use native.Mathlib.Omega.{arith}
+use Rattle.words.proofs.WordLaws.{line-within}
 use Rattle.pack.proofs.refusals.line_of.Statement.{statement}
 use Rattle.pack.proofs.refusals.line_of.Tie as tie
 
@@ -10,6 +12,14 @@ Inv-loop given keyword row n at₀ number₀ left₀ at number left = (at ≤ n)
 
 abbrev μ-loop : tie.MeasureT-loop
 μ-loop given keyword row n at₀ number₀ left₀ at number left = n - at
+
+-- a line ends no earlier than it begins
+forward : (c : tie.Else3 Inv-loop μ-loop)
+    → c .before .before .before .before .before .before .loop .at ≤ c .before .before .before .before .line-end .result
+forward c =
+    let text = c .before .before .before .before .before .before .before .before .before .args .given .now in
+    let at = c .before .before .before .before .before .before .loop .at in
+    omega (arith, line-within text at, c .before .before .before .before .line-end .ensures)
 
 pub line-of-spec : {M : Type 1} → statement M
 line-of-spec =
@@ -26,7 +36,6 @@ line-of-spec =
     (λ c. search needs)
     (λ c. search needs)
     (λ c. search needs)
-    (λ c. search needs)
-    (λ c. search needs)
-    (λ c. search needs)
+    (λ c. omega (arith, forward c))
+    (λ c. omega (arith, forward c))
     (λ c. search needs))
