@@ -2,7 +2,6 @@
 pub mod Told
 pub mod Trace
 pub mod Auto
-pub mod Endless
 pub mod Windows
 pub mod Covers
 pub mod Routes

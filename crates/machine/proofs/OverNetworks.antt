@@ -12,47 +12,90 @@ use Rattle.frame.specs.Packets.{packets}
 use Rattle.network.specs.Network.{Network, vlAt, streamAt}
 use Rattle.network.specs.Views.{streamsOn}
 use Rattle.rows.specs.Queues.{queueFlow, queueFlows, queueLength}
-use Rattle.rows.specs.Rows.{worst, best}
+use Rattle.rows.specs.Rows.{queueOf, worst, best}
 use Rattle.station.specs.Station.{brought, figure}
 use Rattle.station.proofs.Facts.{is-attained-to}
 use Rattle.machine.specs.Sound.{Sound, Has, Busy}
-use Rattle.machine.specs.Runs.{Complete, Reaches}
-use Rattle.machine.specs.OverNetworks.{No-later, No-earlier, No-longer, Reached, Nothing-cut-off, Demand-3-over-networks}
+use Rattle.machine.specs.Messages.{Message, Packet}
+use Rattle.machine.specs.Machine.{Run, complete, state}
+use Rattle.machine.specs.Permitted.{PermittedBelow}
+use Rattle.machine.specs.Runs.{Complete, Hands, Waited, Reaches, Continued}
+use Rattle.machine.specs.OverNetworks.{SentTo, Reached, Nothing-cut-off, Demand-3-over-networks}
 use Rattle.machine.proofs.Lists.Cases.{both}
 use Rattle.machine.proofs.Stage.Select.{is-passing}
-use Rattle.machine.proofs.Network.Told.{was-message, packets-pos}
-use Rattle.machine.proofs.Network.Windows.{queueStation, Windows, latest, soonest}
+use Rattle.machine.proofs.Network.Told.{good, packets-pos}
+use Rattle.machine.proofs.Network.Windows.{queueStation, queue-is, Windows}
 use Rattle.machine.proofs.Network.Covers.{cost-covered, queue-covers}
-use Rattle.machine.proofs.Network.Routes.{windows, worst-is, best-is, queue-is}
+use Rattle.machine.proofs.Network.Routes.{windows, worst-is, best-is}
 use Rattle.machine.proofs.Network.Arrivals.{flow-cost}
 use Rattle.machine.proofs.Network.Auto.{runs}
-use Rattle.machine.proofs.Network.Stopped.{continued, no-later-below, no-earlier-below, waits-below}
-use Rattle.machine.proofs.Wait.Worth.{Aim}
+use Rattle.machine.proofs.Network.Theorem.{no-later, no-earlier, waits}
+use Rattle.machine.proofs.Network.Stopped.{continued}
+use Rattle.machine.proofs.Wait.Fill.{Aim}
 use Rattle.machine.proofs.Wait.Reached.{reached}
 
 module _ (net : Network) (sound : Sound net) (busy : Busy net) where
   abbrev win : Windows net
   win = windows net sound busy
 
-  later : No-later net
-  later r n per t m h s enough =
-      let a = was-message t 0 (r .releases t) m (s .released) in
-      let stream : m .stream < length (net .streams) = subst (λ (z : ℕ). z < length (net .streams)) (a .stream) (per .sized t (a .release) (s .running) (a .there) .stream) in
-      let e : latest net win (m .stream) h ≡ worst net (m .stream) h = worst-is net sound busy (m .stream) h stream (s .row) (s .same-vl) in
-      subst (λ (z : ℕ). Complete net r m h (t + z)) e
-      (no-later-below net sound r n per win t m (s .running) (s .released) h (s .row) (s .same-vl) (s .is-leaf) (omega (arith, e, enough)))
+  -- a run that stops goes on, and is the same in the ticks below: so what is shown of runs without end holds of it
+  module _ (r : Run) (n : ℕ) (per : PermittedBelow net r n) where
+    abbrev more : Continued net r n
+    more = continued net sound r n per
 
-  earlier : No-earlier net
-  earlier r n per t m h s u k c =
-      let a = was-message t 0 (r .releases t) m (s .released) in
-      let stream : m .stream < length (net .streams) = subst (λ (z : ℕ). z < length (net .streams)) (a .stream) (per .sized t (a .release) (s .running) (a .there) .stream) in
-      let e : soonest net win (m .stream) h ≡ best net (m .stream) h = best-is net sound busy (m .stream) h stream (s .row) (s .same-vl) in
-      omega (arith, e, no-earlier-below net sound r n per win t m (s .running) (s .released) h (s .row) (s .same-vl) (s .is-leaf) u k c)
+    same : (t h : ℕ) → t < n → complete net t (more .run .choice t) (state net (more .run) t) h ≡ complete net t (r .choice t) (state net r t) h
+    same t h k = rw (more .same-choice t k, more .same-state t (omega arith))
 
-  longer : No-longer net
-  longer r n per v t x k e =
-      let w = waits-below net sound r n per win v t x k e in
-      record { came = w .came; reach = w .reach; only = w .only; not-before = w .not-before; at-most = omega (arith, w .at-most, queue-is net sound busy (x .message .stream)) }
+    to-more : (t : ℕ) (m : Message) (h : ℕ) → SentTo net r n t m h → SentTo net (more .run) n t m h
+    to-more t m h s = record {
+      running = s .running;
+      released = rw (more .same-releases t (s .running)) (s .released);
+      row = s .row;
+      same-vl = s .same-vl;
+      is-leaf = s .is-leaf;
+    }
+
+    row : (t : ℕ) (m : Message) (h : ℕ) → SentTo net r n t m h → m .stream < length (net .streams)
+    row t m h s = good net (more .run) (more .permitted) t m (to-more t m h s .released) .stream
+
+    later : (t : ℕ) (m : Message) (h : ℕ) → SentTo net r n t m h → t + worst net (m .stream) h < n → Complete net r m h (t + worst net (m .stream) h)
+    later t m h s enough k hk =
+        let e = worst-is net sound busy (m .stream) h (row t m h s) (s .row) (s .same-vl) in
+        let c = no-later net sound win (more .run) (more .permitted) n t m h (to-more t m h s) k hk in
+        record {
+          frame = c .frame;
+          at = c .at;
+          there = rw (same (c .at) h (omega (arith, c .by-then))) at (c .there);
+          message = c .message;
+          index = c .index;
+          by-then = omega (arith, c .by-then);
+        }
+
+    earlier : (t : ℕ) (m : Message) (h : ℕ) → SentTo net r n t m h → (u : ℕ) → u < n → Complete net r m h u → t + best net (m .stream) h ≤ u
+    earlier t m h s u hu c =
+        let e = best-is net sound busy (m .stream) h (row t m h s) (s .row) (s .same-vl) in
+        let b = no-earlier net sound win (more .run) (more .permitted) n t m h (to-more t m h s) u (λ k hk.
+        let w = c k hk in
+        record {
+          frame = w .frame;
+          at = w .at;
+          there = rw (same (w .at) h (omega (arith, w .by-then))) (w .there);
+          message = w .message;
+          index = w .index;
+          by-then = w .by-then;
+        }) in
+        omega arith
+
+    longer : (v t : ℕ) (x : Packet) → t < n → Hands net r v t x → Waited net r n x t (queueOf net (x .message .stream))
+    longer v t x k e =
+        let w = waits net sound win (more .run) (more .permitted) n v t x (rw (more .same-choice t k, more .same-state t (omega arith)) e) in
+        record {
+          came = w .came;
+          reach = rw (more .same-choice (w .came) (omega (arith, w .not-before))) at (w .reach);
+          only = λ u h i. w .only u h (rw (more .same-choice u h) i);
+          not-before = w .not-before;
+          at-most = w .at-most;
+        }
 
   reaches : Reached net
   unfolding queueStation queueLength
@@ -65,7 +108,7 @@ module _ (net : Network) (sound : Sound net) (busy : Busy net) where
       let at : brought (queueFlows net v 0) (a .span) ≡ queueStation net v 0 + a .span =
       a .attains ∙ ap (λ (l : ℕ). figure (queueFlows net v 0) l + a .span) (sym (number-is (queueLength net v 0) (has .length) (has .is))) in
       let aim : Aim net = record { vl = v; row = hv; one-sub-link = one; stream = s; stream-row = h; on-vl = refl; span = a .span; attains = at } in
-      subst (λ (z : ℕ). Reaches net s z) (queue-is net sound busy s) (reached net sound win aim)
+      subst (λ (z : ℕ). Reaches net s z) (queue-is net s) (reached net sound win aim)
 
   -- one message of the stream is at least a packet, and each costs at least a gap
   gap-in-cost : (s : ℕ) → s < length (net .streams) → vlAt net (streamAt net s .vl) .gap ≤ queueFlow net s .cost

@@ -1,11 +1,11 @@
 -- From the release of a message to its sub-link queue: it comes after its own send delay, so a stream's jitter is raised by the spread of the delays; and what comes is worth its packets.
 -- Assumes nothing.
-use Prim.Native.Nat.{ℕ, _*_, _≤_, _<_}
+use Prim.Native.Nat.{ℕ, suc, _+_, _*_, _≤_, _<_}
 use mathlib.Core.Bool.{Bool, true, false, cond, _&&_}
-use mathlib.Core.List.{List, [], _∷_, _++_, List·Memᴰ, List·Memᴰ·head, List·Memᴰ·tail, List·Memᴰ·not-nil, List·Memᴰ·append-cases, Memᴰ·append-left, Memᴰ·append-right, Permᴰ·symm, map}
+use mathlib.Core.List.{List, [], _∷_, _++_, List·Memᴰ, List·Memᴰ·head, List·Memᴰ·tail, List·Memᴰ·not-nil, List·Memᴰ·append-cases, Memᴰ·append-left, Memᴰ·append-right, Permᴰ·symm}
 use mathlib.Core.Logic.{⊎-elim}
 use mathlib.Core.Path.{_≡_, refl, sym, ap, _∙_, subst}
-use native.Mathlib.Nat.{mul-assoc, le-of-eq, le-trans}
+use native.Mathlib.Nat.{mul-assoc, le-of-eq, le-refl, le-trans}
 use native.Mathlib.Omega.{arith}
 use lib.Dec.{eqb, T}
 use lib.ListN.{length, length-append}
@@ -19,18 +19,16 @@ use Rattle.machine.specs.Lists.{chosen}
 use Rattle.machine.specs.Pool.{Due, setOut, landed}
 use Rattle.machine.specs.Messages.{Message, Packet, vlOf, packetsIn, toLane}
 use Rattle.machine.specs.Machine.{Run, allSending, released}
-use Rattle.machine.specs.Permitted.{streamFlow, releasedBy}
+use Rattle.machine.specs.Permitted.{streamFlow, releasedBy, Permitted}
 use Rattle.machine.specs.Sound.{Sound}
 use Rattle.machine.proofs.Lists.Cases.{by-test}
 use Rattle.machine.proofs.Stage.Parts.{lands}
 use Rattle.machine.proofs.Lists.Sums.{span-same}
-use Rattle.machine.proofs.Stage.Flows.{Class, flows}
 use Rattle.machine.proofs.Stage.Delay.{Delay, _then_, reordered, on-the-way, landed-from, perm-mem}
 use Rattle.machine.proofs.Stage.Envelope.{any, envelope}
 use Rattle.machine.proofs.Stage.Select.{chosen-any, was-chosen, delay-chosen, delay-same, looser}
-use Rattle.machine.proofs.Network.Told.{weigh-messages}
+use Rattle.machine.proofs.Network.Told.{arrival, Good, good, weigh-messages}
 use Rattle.machine.proofs.Network.Trace.{ch, st, sending-is}
-use Rattle.machine.proofs.Network.Endless.{arrival, Endless, Good, good}
 
 -- lists that messages bring to a lane
 module _ (net : Network) (v i : ℕ) where
@@ -67,21 +65,13 @@ module _ (net : Network) (v i : ℕ) where
       go e true = omega (arith, ap (λ (n : ℕ). n * c) (length-append (packetsIn net m) (toLane net v i ms)))
       go e false = e
 
-  abbrev pub classes : List ℕ → List (Class Message)
-  classes [] = []
-  classes (s ∷ ns) = record { flow = queueFlow net s; has = λ m. eqb (m .stream) s } ∷ classes ns
-
-  pub flows-classes : (ns : List ℕ) → flows (classes ns) ≡ map (queueFlow net) ns
-  flows-classes [] = refl
-  flows-classes (s ∷ ns) = ap (λ (l : List Flow). queueFlow net s ∷ l) (flows-classes ns)
-
 -- the cost of a stream's flow, as packets times what the virtual server spends on each
 pub flow-cost : (net : Network) (s : ℕ)
     → queueFlow net s .cost ≡ packets (streamAt net s .size) (vlAt net (streamAt net s .vl) .lmax) * (vlAt net (streamAt net s .vl) .sublinks * vlAt net (streamAt net s .vl) .gap)
 unfolding queueFlow
 flow-cost net s = mul-assoc (packets (streamAt net s .size) (vlAt net (streamAt net s .vl) .lmax)) (vlAt net (streamAt net s .vl) .sublinks) (vlAt net (streamAt net s .vl) .gap)
 
-module _ (net : Network) (sound : Sound net) (r : Run) (per : Endless net r) where
+module _ (net : Network) (sound : Sound net) (r : Run) (per : Permitted net r) where
   pub reach-landed : (t : ℕ) → landed t (allSending net t (released r t) (ch net r t) (st net r t)) ≡ lands (λ u. ch net r u .send) (released r) t
   unfolding lands
   reach-landed t = ap (λ (l : List (Due Message)). landed t (l ++ setOut t (ch net r t .send) (released r t))) (sending-is net r t)
@@ -91,12 +81,12 @@ module _ (net : Network) (sound : Sound net) (r : Run) (per : Endless net r) whe
   reach-delay = looser (omega arith) (omega arith)
       (delay-same (λ t. refl) (λ t. sym (reach-landed t))
       (on-the-way (λ u. ch net r u .send) (released r) (net .sendLeast) (net .sendGreatest)
-      (λ t m k. (per .send-least t m k, per .send-greatest t m k)))
-      then reordered (per .reach))
+      (λ t m k. let p = per (suc t) in let l = le-refl (suc t) in (p .send-least t m l k, p .send-greatest t m l k)))
+      then reordered (λ t. per (suc t) .reach t (le-refl (suc t))))
 
   pub reach-at : (t : ℕ) (m : Message) → List·Memᴰ m (ch net r t .reach) → (arrival r m ≡ t) × Good net r (m .released) m
   reach-at t m k =
-      let f = landed-from (λ u. ch net r u .send) (released r) t m (subst (λ (l : List Message). List·Memᴰ m l) (reach-landed t) (perm-mem (Permᴰ·symm (per .reach t)) k)) in
+      let f = landed-from (λ u. ch net r u .send) (released r) t m (subst (λ (l : List Message). List·Memᴰ m l) (reach-landed t) (perm-mem (Permᴰ·symm (per (suc t) .reach t (le-refl (suc t)))) k)) in
       let g = good net r per (f .0) m (f .1) in
       (omega (arith, g .released, f .2, ap (λ (u : ℕ). ch net r u .send m) (g .released)), subst (λ (u : ℕ). Good net r u m) (sym (g .released)) g)
 
@@ -111,6 +101,6 @@ module _ (net : Network) (sound : Sound net) (r : Run) (per : Endless net r) whe
       (λ t m k. let o = was-chosen p (λ n. n) (released r t) m k in
       ap (λ (n : Message). n .released) (sym (o .is)) ∙ good net r per t (o .from) (o .there) .released)
       f (sound .period s h)
-      (λ y c. le-trans (le-of-eq (span-same (λ t. count any (chosen p (λ m. m) (released r t))) (λ t. count p (released r t)) (λ t. chosen-any p (λ m. m) (released r t)) y c)) (le-trans (le-of-eq (span-same (λ t. count p (released r t)) (releasedBy (r .releases) s) (λ t. weigh-messages (λ m. tally (p m)) (λ z. tally (eqb (z .stream) s)) (λ u i z. refl) t 0 (r .releases t)) y c)) (per .rule s h y c)))
+      (λ y c. le-trans (le-of-eq (span-same (λ t. count any (chosen p (λ m. m) (released r t))) (λ t. count p (released r t)) (λ t. chosen-any p (λ m. m) (released r t)) y c)) (le-trans (le-of-eq (span-same (λ t. count p (released r t)) (releasedBy (r .releases) s) (λ t. weigh-messages (λ m. tally (p m)) (λ z. tally (eqb (z .stream) s)) (λ u i z. refl) t 0 (r .releases t)) y c)) (per (suc (y + c)) .rule s h y c (le-refl (suc (y + c))))))
       x d in
       le-trans (le-of-eq (span-same (λ t. count p (ch net r t .reach)) (λ t. count any (chosen p (λ m. m) (ch net r t .reach))) (λ t. sym (chosen-any p (λ m. m) (ch net r t .reach))) x d)) e

@@ -2,14 +2,12 @@
 -- Assumes nothing.
 use Prim.Native.Nat.{ℕ, zero, suc}
 use mathlib.Core.List.{List, [], List·Permᴰ, Permᴰ·refl}
-use mathlib.Core.Path.{_≡_, refl, sym, ap, subst}
+use mathlib.Core.Path.{_≡_, refl, ap}
 use Rattle.network.specs.Network.{Network}
 use Rattle.machine.specs.Pool.{landed}
 use Rattle.machine.specs.Messages.{Release, Message, Frame, messages}
 use Rattle.machine.specs.Machine.{State, Choice, Run, reaches, endJoined, allSending, step, start, state}
-use Rattle.machine.specs.Permitted.{InTurn}
-use Rattle.machine.specs.Runs.{Planned, Runs}
-use Rattle.machine.proofs.Network.Endless.{Endless, permitted}
+use Rattle.machine.specs.Runs.{Planned, RunsAs, Runs}
 
 module _ (net : Network) (releases : ℕ → List Release) (send : ℕ → Message → ℕ) (flight receive : ℕ → ℕ → Frame → ℕ) (firstSub firstVl : ℕ → ℕ)
     (order : List Message → List Message) where
@@ -42,77 +40,45 @@ module _ (net : Network) (releases : ℕ → List Release) (send : ℕ → Messa
   auto zero = start net (record { releases = releases; firstSub = firstSub; firstVl = firstVl; choice = plain })
   auto (suc t) = step net t (messages t 0 (releases t)) (full t (auto t)) (auto t)
 
-  pub auto-run : Run
+  auto-run : Run
   auto-run = record { releases = releases; firstSub = firstSub; firstVl = firstVl; choice = λ t. full t (auto t) }
-
-  pub auto-releases : auto-run .releases ≡ releases
-  unfolding auto-run
-  auto-releases = refl
-
-  pub auto-first-sub : auto-run .firstSub ≡ firstSub
-  unfolding auto-run
-  auto-first-sub = refl
-
-  pub auto-first-vl : auto-run .firstVl ≡ firstVl
-  unfolding auto-run
-  auto-first-vl = refl
-
-  pub auto-send : (t : ℕ) → auto-run .choice t .send ≡ send t
-  unfolding auto-run
-  auto-send t = refl
-
-  pub auto-flight : (t : ℕ) → auto-run .choice t .flight ≡ flight t
-  unfolding auto-run
-  auto-flight t = refl
-
-  pub auto-receive : (t : ℕ) → auto-run .choice t .receive ≡ receive t
-  unfolding auto-run
-  auto-receive t = refl
-
-  pub auto-ordered : (t : ℕ) → (l : List Message) × (auto-run .choice t .reach ≡ order l)
-  unfolding auto-run
-  auto-ordered t = (landed t (allSending net t (messages t 0 (releases t)) (plain t) (auto t)), refl)
 
   state-is : (t : ℕ) → state net auto-run t ≡ auto t
   unfolding state auto auto-run
   state-is zero = refl
   state-is (suc t) = ap (step net t (messages t 0 (releases t)) (full t (auto t))) (state-is t)
 
-  pub auto-permitted : Planned net releases send flight receive → ((l : List Message) → List·Permᴰ l (order l)) → Endless net auto-run
-  unfolding auto-run
-  auto-permitted plan orders = record {
-    sized = plan .sized;
-    rule = plan .rule;
-    send-least = λ t m k. plan .send-least t m;
-    send-greatest = λ t m k. plan .send-greatest t m;
-    reach = λ t.
-        let due : State → List Message = λ s. landed t (allSending net t (messages t 0 (releases t)) (plain t) s) in
-        subst (λ (s : State). List·Permᴰ (due s) (order (due (auto t)))) (sym (state-is t)) (orders (due (auto t)));
-    enter = λ t p. subst (λ (s : State). List·Permᴰ (reaches net t (plain t) s p) (reaches net t (plain t) (auto t) p)) (sym (state-is t)) (Permᴰ·refl (reaches net t (plain t) (auto t) p));
-    turns = λ t e.
-        subst (λ (s : State). List·Permᴰ (endJoined net t (full t (auto t)) s e .lanes) (full t (auto t) .turns e)) (sym (state-is t)) (Permᴰ·refl (full t (auto t) .turns e));
-    flight-least = λ t h f l k. plan .flight-least t h f l;
-    flight-greatest = λ t h f l k. plan .flight-greatest t h f l;
-    receive-least = λ t h f l k. plan .receive-least t h f;
-    receive-greatest = λ t h f l k. plan .receive-greatest t h f;
-  }
+  module _ (plan : Planned net releases send flight receive) (orders : (l : List Message) → List·Permᴰ l (order l)) where
+    pub runs-so : RunsAs net releases send flight receive firstSub firstVl
+    unfolding auto-run
+    runs-so = record {
+      run = auto-run;
+      permitted = λ n. record {
+        sized = λ t x h. plan .sized t x;
+        rule = λ s h x d k. plan .rule s h x d;
+        send-least = λ t m h k. plan .send-least t m;
+        send-greatest = λ t m h k. plan .send-greatest t m;
+        reach = λ t h. rw (state-is t) (orders (landed t (allSending net t (messages t 0 (releases t)) (plain t) (auto t))));
+        enter = λ t p h. rw (state-is t) (Permᴰ·refl (reaches net t (plain t) (auto t) p));
+        turns = λ t e h. rw (state-is t) (Permᴰ·refl (full t (auto t) .turns e));
+        flight-least = λ t h f i l k. plan .flight-least t h f l;
+        flight-greatest = λ t h f i l k. plan .flight-greatest t h f l;
+        receive-least = λ t h f i l k. plan .receive-least t h f;
+        receive-greatest = λ t h f i l k. plan .receive-greatest t h f;
+      };
+      in-turn = λ n t e h. rw (state-is t);
+      releases-are = refl;
+      first-sub-is = refl;
+      first-vl-is = refl;
+      send-is = λ t. refl;
+      flight-is = λ t. refl;
+      receive-is = λ t. refl;
+    }
 
-  pub auto-in-turn : (n : ℕ) → InTurn net auto-run n
-  unfolding auto-run
-  auto-in-turn n t e h = ap (λ (s : State). endJoined net t (full t (auto t)) s e .lanes) (sym (state-is t))
+    pub reached-in-order : (t : ℕ) → (l : List Message) × (runs-so .run .choice t .reach ≡ order l)
+    unfolding runs-so auto-run
+    reached-in-order t = (landed t (allSending net t (messages t 0 (releases t)) (plain t) (auto t)), refl)
 
 pub runs : (net : Network) → Runs net
 runs net releases send flight receive firstSub firstVl plan =
-    let order : List Message → List Message = λ l. l in
-    record {
-      run = auto-run net releases send flight receive firstSub firstVl order;
-      permitted = permitted net (auto-run net releases send flight receive firstSub firstVl order)
-          (auto-permitted net releases send flight receive firstSub firstVl order plan (λ l. Permᴰ·refl l));
-      in-turn = auto-in-turn net releases send flight receive firstSub firstVl order;
-      releases-are = auto-releases net releases send flight receive firstSub firstVl order;
-      first-sub-is = auto-first-sub net releases send flight receive firstSub firstVl order;
-      first-vl-is = auto-first-vl net releases send flight receive firstSub firstVl order;
-      send-is = auto-send net releases send flight receive firstSub firstVl order;
-      flight-is = auto-flight net releases send flight receive firstSub firstVl order;
-      receive-is = auto-receive net releases send flight receive firstSub firstVl order;
-    }
+    runs-so net releases send flight receive firstSub firstVl (λ l. l) plan (λ l. Permᴰ·refl l)

@@ -3,7 +3,7 @@
 use Prim.Native.Nat.{ℕ, _+_, _*_, _≤_, _<_}
 use mathlib.Core.Bool.{_&&_}
 use mathlib.Core.List.{List, [], _∷_, map, List·Memᴰ, List·Memᴰ·head, List·Memᴰ·tail}
-use mathlib.Core.Path.{_≡_, refl, sym, ap, subst}
+use mathlib.Core.Path.{_≡_, refl, sym, subst}
 use native.Mathlib.Nat.{mul-le-mul-right}
 use native.Mathlib.Omega.{arith}
 use lib.Dec.{eqb, eqb→eq}
@@ -25,21 +25,17 @@ use Rattle.station.specs.Facts.{Periodic}
 use Rattle.station.specs.Station.{Flow, most, brought, busyLengthTo, figure}
 use Rattle.station.proofs.Facts.{covers-every-span-to}
 use Rattle.machine.specs.Sound.{Sound, Has, Busy}
+use Rattle.machine.proofs.Lists.Sums.{weigh-part}
+use Rattle.machine.proofs.Stage.Flows.{brought-is}
 use Rattle.machine.proofs.Stage.Select.{was-passing}
 use Rattle.machine.proofs.Network.Windows.{queueStation}
-
--- a flow's own part of what a span brings
-pub brought-part : (f : ℕ → Flow) (d s : ℕ) (ns : List ℕ) → List·Memᴰ s ns → most (f s) d * f s .cost ≤ brought (map f ns) d
-unfolding brought
-brought-part f d s (n ∷ ns) (List·Memᴰ·head e) = omega (arith, ap (λ (z : ℕ). most (f z) d * f z .cost) e)
-brought-part f d s (n ∷ ns) (List·Memᴰ·tail m) = omega (arith, brought-part f d s ns m)
 
 -- one arrival of a flow comes in any span, so a figure that covers is no less than its cost
 pub cost-covered : (f : ℕ → Flow) (s q : ℕ) (ns : List ℕ) → List·Memᴰ s ns → brought (map f ns) 0 ≤ q + 0 → f s .cost ≤ q
 unfolding most
 cost-covered f s q ns m h =
     let one : 1 * f s .cost ≤ most (f s) 0 * f s .cost = mul-le-mul-right (f s .cost) (omega arith) in
-    omega (arith, brought-part f 0 s ns m)
+    omega (arith, brought-is f 0 ns, weigh-part (λ z. most (f z) 0 * f z .cost) s ns m)
 
 -- where there is a busy length, the figure of that length covers every span
 station-covers : (lim : ℕ) (fs : List Flow) → Periodic fs → Has (busyLengthTo lim fs) → (d : ℕ) → brought fs d ≤ figure fs (numberOr0 (busyLengthTo lim fs)) + d

@@ -1,6 +1,6 @@
 -- From the hand-over of a frame to its end on the end system's link: one frame of each VL takes no longer than a gap, so no VL brings a second one while the link is busy, and each frame is sent within 7's sum.
 -- Assumes nothing.
-use Prim.Native.Nat.{ℕ, _+_, _*_, _≤_, _<_, max}
+use Prim.Native.Nat.{ℕ, suc, _+_, _*_, _≤_, _<_, max}
 use mathlib.Core.Bool.{cond, Bool}
 use mathlib.Core.List.{List, [], _∷_, List·Memᴰ, List·Memᴰ·head, List·Memᴰ·tail, List·Permᴰ}
 use mathlib.Core.Path.{_≡_, refl, sym, ap, _∙_, subst, subst₂}
@@ -20,10 +20,11 @@ use Rattle.machine.specs.Turn.{Lane, add, fromTurn}
 use Rattle.machine.specs.Mux.{Mux}
 use Rattle.machine.specs.Messages.{Frame, endCost, ofVl}
 use Rattle.machine.specs.Machine.{Run, start}
+use Rattle.machine.specs.Permitted.{Permitted}
 use Rattle.machine.specs.Sound.{Sound}
 use Rattle.machine.proofs.Lists.Cases.{eq→eqb, by-test}
 use Rattle.machine.proofs.Stage.Parts.{mux, mux-out}
-use Rattle.machine.proofs.Lists.Sums.{span-mono, span-same, span-add, span-mul, span-zeros, upto, upto-same, upto-mono}
+use Rattle.machine.proofs.Lists.Sums.{span-mono, span-same, span-mul, span-sum, upto, upto-same, upto-mono}
 use Rattle.machine.proofs.Lists.Turns.{Empty, Named}
 use Rattle.machine.proofs.Lists.Lanes.{added}
 use Rattle.machine.proofs.Stage.MuxLaws.{brings, backward, forward, weighed, out-origin}
@@ -32,14 +33,8 @@ use Rattle.machine.proofs.Stage.Envelope.{any}
 use Rattle.machine.proofs.Stage.Select.{was-chosen, is-chosen, chosen-weigh, delay-same, is-passing, was-passing, weigh-one}
 use Rattle.machine.proofs.Lists.Start.{lanes-empty, lanes-named, lanes-added, turn-mem, turn-weigh}
 use Rattle.machine.proofs.Network.Trace.{hand, looks, end-is, sent, sent-is}
-use Rattle.machine.proofs.Network.Endless.{Endless}
 use Rattle.machine.proofs.Network.Windows.{Windows}
 use Rattle.machine.proofs.Network.Queues.{Fact, hand-fact, hand-vl, hand-rate}
-
-span-sum : (h : ℕ → ℕ → ℕ) (b : ℕ → ℕ) (x d : ℕ) (ns : List ℕ) → ((i : ℕ) → List·Memᴰ i ns → span (λ t. h t i) x d ≤ b i) → span (λ t. weigh (h t) ns) x d ≤ weigh b ns
-unfolding total
-span-sum h b x d [] k = le-of-eq (span-zeros x d)
-span-sum h b x d (i ∷ ns) k = omega (arith, span-add (λ t. h t i) (λ t. weigh (h t) ns) x d, k i (List·Memᴰ·head refl), span-sum h b x d ns (λ j m. k j (List·Memᴰ·tail m)))
 
 weigh-count : {X : Type 0} (cost : X → ℕ) (c : ℕ) (l : List X) → ((x : X) → List·Memᴰ x l → cost x ≤ c) → weigh cost l ≤ count any l * c
 unfolding total
@@ -56,7 +51,7 @@ unfolding total
 weigh-none w [] h = refl
 weigh-none w (x ∷ l) h = omega (arith, h x (List·Memᴰ·head refl), weigh-none w l (λ y m. h y (List·Memᴰ·tail m)))
 
-module _ (net : Network) (sound : Sound net) (r : Run) (per : Endless net r) (win : Windows net) (v : ℕ) (hv : v < length (net .vls)) where
+module _ (net : Network) (sound : Sound net) (r : Run) (per : Permitted net r) (win : Windows net) (v : ℕ) (hv : v < length (net .vls)) where
   abbrev e : ℕ
   e = vlAt net v .system
 
@@ -90,7 +85,7 @@ module _ (net : Network) (sound : Sound net) (r : Run) (per : Endless net r) (wi
   looked = looks net r e
 
   ordered : (t : ℕ) → List·Permᴰ (add (new t) (mux (endCost net e) s₀ new looked t .lanes)) (looked t)
-  ordered t = subst (λ (s : Mux Frame). List·Permᴰ (add (new t) (s .lanes)) (looked t)) (end-is net r e t) (per .turns t e)
+  ordered t = subst (λ (s : Mux Frame). List·Permᴰ (add (new t) (s .lanes)) (looked t)) (end-is net r e t) (per (suc t) .turns t e (le-refl (suc t)))
 
   abbrev c : ℕ → ℕ
   c i = sendMost net i

@@ -2,13 +2,12 @@
 -- Assumes nothing.
 use Prim.Native.Nat.{ℕ, zero, suc, _+_, _-_, _/_, _≤_, _<_}
 use mathlib.Core.Bool.{Bool, true, cond}
-use mathlib.Core.List.{List, _++_, [], _∷_, List·Memᴰ, List·Memᴰ·head, List·Memᴰ·tail, Permᴰ·symm, map}
-use mathlib.Core.Logic.{inl, inr}
+use mathlib.Core.List.{List, _++_, [], List·Memᴰ, Permᴰ·symm}
 use mathlib.Core.Option.{Option, none, some}
 use mathlib.Core.Path.{_≡_, refl, sym, ap, _∙_, subst}
 use native.Mathlib.Nat.{le-refl, le-of-eq, le-trans, add-zero}
 use native.Mathlib.Omega.{arith}
-use lib.Dec.{eqb, T, eqb-refl}
+use lib.Dec.{eqb, eqb-refl}
 use lib.ListN.{length}
 use Rattle.frame.specs.Frame.{leastLine, largestLine}
 use Rattle.network.specs.Network.{Network, vlAt, portAt, hopAt, parentAt}
@@ -19,22 +18,22 @@ use Rattle.network.proofs.PortLaws.{on-port}
 use Rattle.rows.specs.Links.{hopMost, hopLine}
 use Rattle.rows.specs.Ports.{hopFlow, portFlows, portFigure, jitterOf, figureOf}
 use Rattle.rows.proofs.PortLaws.{figure-of-port}
-use Rattle.station.specs.Station.{Flow, most, brought}
+use Rattle.station.specs.Station.{most, brought}
 use Rattle.machine.specs.Sum.{span, count, weigh}
 use Rattle.machine.specs.Lists.{chosen}
 use Rattle.machine.specs.Fifo.{Fifo, still}
 use Rattle.machine.specs.Messages.{Copy, copy, portCost}
 use Rattle.machine.specs.Machine.{Run, setsFrom, portArrived}
+use Rattle.machine.specs.Permitted.{Permitted}
 use Rattle.machine.specs.Sound.{Sound}
 use Rattle.machine.proofs.Stage.Parts.{fifo-out}
 use Rattle.machine.proofs.Lists.Sums.{span-same}
 use Rattle.machine.proofs.Stage.FifoLaws as FifoLaws
-use Rattle.machine.proofs.Stage.Flows.{Class, flows, Covered, Kept, works-bound}
+use Rattle.machine.proofs.Stage.Flows.{Covered, works-bound}
 use Rattle.machine.proofs.Stage.Delay.{Delay, _then_, reordered, on-the-way, perm-mem}
 use Rattle.machine.proofs.Stage.Envelope.{any, envelope}
 use Rattle.machine.proofs.Stage.Select.{was-chosen, is-chosen, chosen-any, delay-chosen, delay-same, looser, hops-at, was-gathered}
 use Rattle.machine.proofs.Network.Trace.{ch, st, port-is, hand, source, lands-at, lands-is, into, left, left-is, done, done-is}
-use Rattle.machine.proofs.Network.Endless.{Endless}
 use Rattle.machine.proofs.Network.Windows.{Windows, soon-by, late-by}
 use Rattle.machine.proofs.Network.Queues.{hand-fact, hand-rate}
 use Rattle.machine.proofs.Network.Ends.{end-delay}
@@ -53,7 +52,7 @@ fifo-delay {Job} cost ins lo h env f bound covers =
       weighed = FifoLaws.weighed cost ins pos;
     }
 
-module _ (net : Network) (sound : Sound net) (r : Run) (per : Endless net r) (win : Windows net) where
+module _ (net : Network) (sound : Sound net) (r : Run) (per : Permitted net r) (win : Windows net) where
   abbrev port-of : ℕ → ℕ
   port-of h = hopAt net h .port
 
@@ -62,9 +61,9 @@ module _ (net : Network) (sound : Sound net) (r : Run) (per : Endless net r) (wi
   unfolding hopsOn
   flight h hh = looser (omega arith) (omega arith)
       (delay-same (λ t. refl) (λ t. lands-is net r h t)
-      (on-the-way (λ u. ch net r u .flight h) (source net r h) (portAt net (port-of h) .least) (portAt net (port-of h) .greatest) (λ t f m. (per .flight-least t h f hh m, per .flight-greatest t h f hh m)))
+      (on-the-way (λ u. ch net r u .flight h) (source net r h) (portAt net (port-of h) .least) (portAt net (port-of h) .greatest) (λ t f m. let p = per (suc t) in let l = le-refl (suc t) in (p .flight-least t h f l hh m, p .flight-greatest t h f l hh m)))
       then delay-same (λ t. hops-at h (λ g. eqb (port-of g) (port-of h)) (λ g. lands-at net r g t) (eqb-refl (port-of h)) (length (net .hops)) hh) (λ t. refl)
-      (delay-chosen (λ c. eqb (c .hop) h) (λ c. c .frame) (reordered (λ t. per .enter t (port-of h)))))
+      (delay-chosen (λ c. eqb (c .hop) h) (λ c. c .frame) (reordered (λ t. per (suc t) .enter t (port-of h) (le-refl (suc t))))))
 
   -- all that port p holds after the arrivals of tick t, before its start, is sent whole within its figure
   abbrev pub Held-within : ℕ → ℕ → Type 0
@@ -90,7 +89,7 @@ module _ (net : Network) (sound : Sound net) (r : Run) (per : Endless net r) (wi
 
     known : (t : ℕ) (c : Copy) → List·Memᴰ c (ins t) → Known t c
     known t c m =
-        let w = was-gathered (λ h. chosen (λ f. true) (copy h) (lands-at net r h t)) ns c (perm-mem (Permᴰ·symm (per .enter t p)) m) in
+        let w = was-gathered (λ h. chosen (λ f. true) (copy h) (lands-at net r h t)) ns c (perm-mem (Permᴰ·symm (per (suc t) .enter t p (le-refl (suc t)))) m) in
         let q = on-port net p (w .0) (w .1) in
         let o = was-chosen (λ f. true) (copy (w .0)) (lands-at net r (w .0) t) c (w .2) in
         let e : w .0 ≡ c .hop = ap (λ (z : Copy). z .hop) (o .is) in
@@ -112,23 +111,12 @@ module _ (net : Network) (sound : Sound net) (r : Run) (per : Endless net r) (wi
           ticks-least (portLink net p) (c .frame .packet .bytes) (k .bytes-least),
         )
 
-    abbrev classes : List ℕ → List (Class Copy)
-    classes [] = []
-    classes (h ∷ l) = record { flow = hopFlow net (jitterOf net) h; has = λ c. eqb (c .hop) h } ∷ classes l
-
-    flows-classes : (l : List ℕ) → flows (classes l) ≡ map (hopFlow net (jitterOf net)) l
-    flows-classes [] = refl
-    flows-classes (h ∷ l) = ap (λ (k : List Flow). hopFlow net (jitterOf net) h ∷ k) (flows-classes l)
-
-    covered-in : (c : Copy) → portCost net p c ≤ hopFlow net (jitterOf net) (c .hop) .cost → (l : List ℕ) → List·Memᴰ (c .hop) l → Covered (portCost net p) (classes l) c
-    covered-in c h (i ∷ l) (List·Memᴰ·head e) = inl (subst (λ (n : ℕ). T (eqb (c .hop) n) × (portCost net p c ≤ hopFlow net (jitterOf net) n .cost)) e (eqb-refl (c .hop), h))
-    covered-in c h (i ∷ l) (List·Memᴰ·tail k) = inr (covered-in c h l k)
-
-    covered : (t : ℕ) (c : Copy) → List·Memᴰ c (ins t) → Covered (portCost net p) (classes ns) c
+    covered : (t : ℕ) → Covered (portCost net p) (λ c. c .hop) (hopFlow net (jitterOf net)) ns (ins t)
     unfolding hopFlow hopMost
     covered t c m =
         let k = known t c m in
-        covered-in c (rw (k .here) (ticks-most (portLink net p) (c .frame .packet .bytes) (vlAt net (hopAt net (c .hop) .vl) .lmax) (k .bytes-most))) ns (k .listed)
+        let lmax = vlAt net (hopAt net (c .hop) .vl) .lmax in
+        (k .listed, rw (k .here) (ticks-most (portLink net p) (c .frame .packet .bytes) lmax (k .bytes-most)))
 
     jitter : (h : ℕ) → h < length (net .hops) → 0 + (win .late h - win .soon h) ≡ jitterOf net h
     jitter h hh = omega (arith, win .spread h hh)
@@ -150,17 +138,10 @@ module _ (net : Network) (sound : Sound net) (r : Run) (per : Endless net r) (wi
           ap (λ (n : ℕ). (d + n) / vlAt net v .gap) (jitter h hh),
         )
 
-    in-ns : (h : ℕ) → List·Memᴰ h ns → (h < length (net .hops)) × (port-of h ≡ p)
-    in-ns h m = on-port net p h m
-
-    kept-in : (l : List ℕ) → ((h : ℕ) → List·Memᴰ h l → List·Memᴰ h ns) → Kept (portCost net p) ins (classes l)
-    kept-in [] k = tt
-    kept-in (h ∷ l) k = (let i = in-ns h (k h (List·Memᴰ·head refl)) in hop-rate h (i .0) (i .1), kept-in l (λ g m. k g (List·Memᴰ·tail m)))
-
     bound : (x d : ℕ) → span (λ t. weigh (portCost net p) (ins t)) x d ≤ brought (portFlows net (jitterOf net) p) d
     unfolding portFlows
-    bound x d = subst (λ (l : List Flow). span (λ t. weigh (portCost net p) (ins t)) x d ≤ brought l d) (flows-classes ns)
-        (works-bound (portCost net p) ins (classes ns) covered (kept-in ns (λ h m. m)) x d)
+    bound = works-bound (portCost net p) (λ c. c .hop) (hopFlow net (jitterOf net)) ns ins covered
+        (λ h m. let i = on-port net p h m in hop-rate h (i .0) (i .1))
 
     port-delay : Delay ins (fifo-out (portCost net p) ins) lo (portFigure net (jitterOf net) p)
     port-delay = fifo-delay (portCost net p) ins lo costs (brought (portFlows net (jitterOf net) p)) (portFigure net (jitterOf net) p) bound (win .port-covers p)
@@ -222,4 +203,4 @@ module _ (net : Network) (sound : Sound net) (r : Run) (per : Endless net r) (wi
       then hop-delay (port-of h) (arrive (port-of h)) h refl
       then delay-same (λ t. ap (λ (b : Bool). cond b (left net r h t) []) k) (λ t. done-is net r h t)
       (on-the-way (λ u. ch net r u .receive h) (λ u. cond (leaf net h) (left net r h u) []) (net .receiveLeast) (net .receiveGreatest)
-      (λ t f m. let i = subst (λ (b : Bool). List·Memᴰ f (cond b (left net r h t) [])) k m in (per .receive-least t h f k i, per .receive-greatest t h f k i)))
+      (λ t f m. let i = subst (λ (b : Bool). List·Memᴰ f (cond b (left net r h t) [])) k m in let p = per (suc t) in let l = le-refl (suc t) in (p .receive-least t h f l k i, p .receive-greatest t h f l k i)))

@@ -1,9 +1,8 @@
 -- From a sub-link queue to the hand-over: each packet is handed over within the station's figure less one gap, and no sooner than its place in its message allows.
 -- Assumes nothing.
 use Prim.Native.Nat.{ℕ, zero, suc, _+_, _*_, _/_, _≤_, _<_}
-use mathlib.Core.Bool.{true, cond, _&&_}
+use mathlib.Core.Bool.{Bool, true, cond, _&&_}
 use mathlib.Core.List.{List, [], _∷_, List·Memᴰ, List·Memᴰ·head, List·Memᴰ·tail, List·Memᴰ·not-nil, List·Memᴰ·eq-of-singleton}
-use mathlib.Core.Logic.{inl, inr}
 use mathlib.Core.Option.{Option, none, some}
 use mathlib.Core.Path.{_≡_, refl, sym, ap, _∙_, subst}
 use native.Mathlib.Nat.{le-refl, le-of-eq, le-trans, mul-le-mul-right}
@@ -18,32 +17,32 @@ use Rattle.frame.proofs.PacketLaws.{packet-lines-between}
 use Rattle.network.specs.Network.{Network, vlAt, streamAt}
 use Rattle.rows.specs.Queues.{queueFlow, queueFlows}
 use Rattle.network.specs.Views.{streamsOn}
-use Rattle.station.specs.Station.{Flow, brought}
+use Rattle.station.specs.Station.{most, brought}
 use Rattle.machine.specs.Sum.{span, count, weigh}
 use Rattle.machine.specs.Lists.{chosen}
 use Rattle.machine.specs.Turn.{fromTurn}
 use Rattle.machine.specs.Queue.{Queue}
 use Rattle.machine.specs.Messages.{Message, Packet, Frame, number, vlOf, packetsIn, toLane, framed}
 use Rattle.machine.specs.Machine.{Run, start}
+use Rattle.machine.specs.Permitted.{Permitted}
 use Rattle.machine.specs.Sound.{Sound}
 use Rattle.machine.proofs.Lists.Cases.{eq→eqb, by-test, both}
 use Rattle.machine.proofs.Stage.Parts.{handed, queue}
 use Rattle.machine.proofs.Lists.Sums.{span-mono, span-same}
 use Rattle.machine.proofs.Stage.Lindley.{finish, finish-next, finish-bound}
-use Rattle.machine.proofs.Stage.Flows.{Covered, Kept, works-bound}
+use Rattle.machine.proofs.Stage.Flows.{Covered, works-bound}
 use Rattle.machine.proofs.Lists.Turns.{Empty, Named, Within}
 use Rattle.machine.proofs.Stage.QueueSteps.{hand-count, tally-of, hand-origin}
 use Rattle.machine.proofs.Stage.QueueLaws.{Low, low-append, hand-bounds, forward, still-due, Gone}
 use Rattle.machine.proofs.Stage.Envelope.{any}
 use Rattle.machine.proofs.Stage.Select.{count-chosen, was-chosen, is-passing, was-passing}
 use Rattle.machine.proofs.Lists.Start.{lanes-empty, lanes-length, lanes-named, turn-length, turn-mem, passing-all}
-use Rattle.machine.proofs.Network.Told.{packets-mono, length-lines, length-number, was-number, is-number}
+use Rattle.machine.proofs.Network.Told.{arrival, Good, packets-mono, length-lines, length-number, was-number, is-number}
 use Rattle.machine.proofs.Network.Trace.{ch, news, hand, hand-is}
-use Rattle.machine.proofs.Network.Endless.{arrival, Endless, Good}
 use Rattle.machine.proofs.Network.Windows.{Windows, queueStation}
-use Rattle.machine.proofs.Network.Arrivals.{test, was-brought, is-brought, lane-weight, classes, flows-classes, flow-cost, reach-at, stream-rate}
+use Rattle.machine.proofs.Network.Arrivals.{test, was-brought, is-brought, lane-weight, flow-cost, reach-at, stream-rate}
 
-module _ (net : Network) (sound : Sound net) (r : Run) (per : Endless net r) where
+module _ (net : Network) (sound : Sound net) (r : Run) (per : Permitted net r) where
   -- ---- one lane
   module _ (v i : ℕ) (hv : v < length (net .vls)) where
     abbrev nb : ℕ
@@ -52,8 +51,11 @@ module _ (net : Network) (sound : Sound net) (r : Run) (per : Endless net r) whe
     abbrev msgs : ℕ → List Message
     msgs t = chosen (test net v i) (λ m. m) (ch net r t .reach)
 
+    abbrev tests : ℕ → Bool
+    tests s = eqb (streamAt net s .vl) v && eqb (streamAt net s .sublink) i
+
     abbrev ns : List ℕ
-    ns = passing (λ s. eqb (streamAt net s .vl) v && eqb (streamAt net s .sublink) i) (length (net .streams))
+    ns = passing tests (length (net .streams))
 
     abbrev cost : Message → ℕ
     cost m = length (packetsIn net m) * nb
@@ -70,28 +72,19 @@ module _ (net : Network) (sound : Sound net) (r : Run) (per : Endless net r) whe
         subst (λ (w : ℕ). length (packetsIn net m) * (vlAt net w .sublinks * vlAt net w .gap) ≤ queueFlow net (m .stream) .cost) e
         (le-trans (mul-le-mul-right (vlAt net (vlOf net m) .sublinks * vlAt net (vlOf net m) .gap) q) (le-of-eq (sym (flow-cost net (m .stream)))))
 
-    covered-in : (m : Message) → cost m ≤ queueFlow net (m .stream) .cost → (l : List ℕ) → List·Memᴰ (m .stream) l → Covered cost (classes net v i l) m
-    covered-in m h (s ∷ l) (List·Memᴰ·head e) = inl (subst (λ (n : ℕ). T (eqb (m .stream) n) × (cost m ≤ queueFlow net n .cost)) e (lib.Dec.eqb-refl (m .stream), h))
-    covered-in m h (s ∷ l) (List·Memᴰ·tail k) = inr (covered-in m h l k)
-
-    covered : (t : ℕ) (m : Message) → List·Memᴰ m (msgs t) → Covered cost (classes net v i ns) m
+    covered : (t : ℕ) → Covered cost (λ m. m .stream) (queueFlow net) ns (msgs t)
     covered t m k =
         let o = was-chosen (test net v i) (λ n. n) (ch net r t .reach) m k in
         let k′ : List·Memᴰ m (ch net r t .reach) = subst (λ (n : Message). List·Memᴰ n (ch net r t .reach)) (o .is) (o .there) in
         let h′ : T (test net v i m) = subst (λ (n : Message). T (test net v i n)) (o .is) (o .passes) in
         let g = reach-at net sound r per t m k′ .1 in
-        covered-in m (cost-least m (m .released) g h′) ns (is-passing (λ s. eqb (streamAt net s .vl) v && eqb (streamAt net s .sublink) i) (length (net .streams)) (m .stream) (g .stream) h′)
+        (is-passing tests (length (net .streams)) (m .stream) (g .stream) h′, cost-least m (m .released) g h′)
 
-    kept-in : (l : List ℕ) → ((s : ℕ) → List·Memᴰ s l → s < length (net .streams)) → Kept cost msgs (classes net v i l)
-    kept-in [] h = tt
-    kept-in (s ∷ l) h = (
-      (λ x d. le-trans (span-mono (λ t. count (λ m. eqb (m .stream) s) (msgs t)) (λ t. count (λ m. eqb (m .stream) s) (ch net r t .reach))
-          (λ t. count-chosen (test net v i) (λ m. eqb (m .stream) s) (ch net r t .reach)) x d) (stream-rate net sound r per s (h s (List·Memᴰ·head refl)) x d)),
-      kept-in l (λ n k. h n (List·Memᴰ·tail k)),
-    )
-
-    in-ns : (s : ℕ) → List·Memᴰ s ns → s < length (net .streams)
-    in-ns s k = was-passing (λ n. eqb (streamAt net n .vl) v && eqb (streamAt net n .sublink) i) (length (net .streams)) s k .0
+    kept : (s : ℕ) → List·Memᴰ s ns → (x d : ℕ) → span (λ t. count (λ m. eqb (m .stream) s) (msgs t)) x d ≤ most (queueFlow net s) d
+    kept s k x d = le-trans
+        (span-mono (λ t. count (λ m. eqb (m .stream) s) (msgs t)) (λ t. count (λ m. eqb (m .stream) s) (ch net r t .reach))
+        (λ t. count-chosen (test net v i) (λ m. eqb (m .stream) s) (ch net r t .reach)) x d)
+        (stream-rate net sound r per s (was-passing tests (length (net .streams)) s k .0) x d)
 
     abbrev load : ℕ → ℕ
     load t = length (news net r v t i) * nb
@@ -100,7 +93,7 @@ module _ (net : Network) (sound : Sound net) (r : Run) (per : Endless net r) whe
     unfolding queueFlows streamsOn
     load-bound x d = le-trans
         (le-of-eq (span-same load (λ t. weigh cost (msgs t)) (λ t. lane-weight net v i nb (ch net r t .reach)) x d))
-        (subst (λ (l : List Flow). span (λ t. weigh cost (msgs t)) x d ≤ brought l d) (flows-classes net v i ns) (works-bound cost msgs (classes net v i ns) covered (kept-in ns in-ns) x d))
+        (works-bound cost (λ m. m .stream) (queueFlow net) ns msgs covered kept x d)
 
     -- the virtual server is done within the winure
     pub lane-finish : (win : Windows net) (t : ℕ) → finish load t ≤ t + queueStation net v i

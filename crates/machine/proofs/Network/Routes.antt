@@ -19,8 +19,7 @@ use Rattle.network.proofs.RouteLaws.{route-of-root, route-of-parent}
 use Rattle.rows.specs.Links.{sendMost, sendLine, sendSpread, sendSum, muxWait, hopLine, hopSpread}
 use Rattle.network.specs.Views.{vlsOf, route}
 use Rattle.rows.specs.Ports.{rootJitter, childJitter, jitterOf, figureOf}
-use Rattle.rows.specs.Queues.{queueFigure}
-use Rattle.rows.specs.Rows.{queueOf, worst, best}
+use Rattle.rows.specs.Rows.{worst, best}
 use Rattle.rows.proofs.PortLaws.{figures-of}
 use Rattle.rows.proofs.RowLaws.{mostAt, leastAt, worst-sum, best-sum}
 use Rattle.machine.specs.Sum.{weigh}
@@ -28,7 +27,7 @@ use Rattle.machine.specs.Sound.{Sound, Busy}
 use Rattle.machine.proofs.Lists.Cases.{eq→eqb, by-test}
 use Rattle.machine.proofs.Lists.Sums.{weigh-append}
 use Rattle.machine.proofs.Stage.Select.{passing-suc}
-use Rattle.machine.proofs.Network.Windows.{queueStation, soon-by, late-by, Windows, latest, soonest}
+use Rattle.machine.proofs.Network.Windows.{queue-is, soon-by, late-by, Windows, latest, soonest}
 use Rattle.machine.proofs.Network.Covers.{queue-covers, port-covers, figure-least}
 
 -- ---- one number taken out of a sum
@@ -179,10 +178,6 @@ module _ (net : Network) (sound : Sound net) (busy : Busy net) where
     port-covers = port-covers net sound busy;
   }
 
-  pub queue-is : (s : ℕ) → queueStation net (streamAt net s .vl) (streamAt net s .sublink) - vlAt net (streamAt net s .vl) .gap ≡ queueOf net s
-  unfolding queueOf queueFigure queueStation
-  queue-is s = refl
-
   module _ (s h : ℕ) (hs : s < length (net .streams)) (hh : h < length (net .hops)) (of : hopAt net h .vl ≡ streamAt net s .vl) where
     pub worst-is : latest net windows s h ≡ worst net s h
     unfolding windows
@@ -193,7 +188,7 @@ module _ (net : Network) (sound : Sound net) (busy : Busy net) where
           late-route h hh,
           ap (λ (v : ℕ). sendSum net (vlAt net v .system)) of,
           send-sum-is (streamAt net s .vl) (sound .references .stream-vl s hs),
-          queue-is s,
+          queue-is net s,
         )
 
     pub best-is : soonest net windows s h ≡ best net s h

@@ -1,10 +1,10 @@
--- The messages of a tick's releases, and the packets of a message, by number.
+-- The messages of a tick's releases, what is known of each in a permitted run, and the packets of a message, by number.
 -- Assumes nothing.
 use Prim.Native.Nat.{ℕ, zero, suc, _+_, _≤_, _<_}
 use mathlib.Core.List.{List, [], _∷_, _++_, List·Memᴰ, List·Memᴰ·head, List·Memᴰ·tail, List·Memᴰ·not-nil, List·Memᴰ·cases-cons}
 use mathlib.Core.Logic.{⊎-elim}
 use mathlib.Core.Path.{_∙_, _≡_, refl, sym, ap, subst}
-use native.Mathlib.Nat.{add-zero}
+use native.Mathlib.Nat.{add-zero, le-refl}
 use native.Mathlib.Omega.{arith}
 use lib.ListN.{length, getD}
 use Rattle.base.specs.Tabulate.{total}
@@ -12,9 +12,11 @@ use Rattle.frame.specs.Frame.{protocolOverhead}
 use Rattle.frame.specs.Packets.{packetLines, packets}
 use Rattle.frame.proofs.FrameLaws.{protocol-overhead-is}
 use Rattle.frame.proofs.PacketLaws.{packets-grow, packets-some, packet-lines-length}
-use Rattle.station.specs.Station.{most}
+use Rattle.network.specs.Network.{Network, streamAt}
 use Rattle.machine.specs.Sum.{weigh}
 use Rattle.machine.specs.Messages.{Message, Packet, number, Release, messages}
+use Rattle.machine.specs.Machine.{Run, released}
+use Rattle.machine.specs.Permitted.{Permitted}
 use Rattle.machine.specs.OverNetworks.{Told-apart}
 
 -- ---- the messages of a tick
@@ -41,6 +43,30 @@ was-message t i (x ∷ xs) m k = ⊎-elim
     (λ j. let w = was-message t (suc i) xs m j in
     record { release = w .release; there = List·Memᴰ·tail (w .there); stream = w .stream; size = w .size; released = w .released; place = omega (arith, w .place) })
     (List·Memᴰ·cases-cons k)
+
+-- the tick at which a message reaches its queue
+abbrev pub arrival : Run → Message → ℕ
+arrival r m = m .released + r .choice (m .released) .send m
+
+-- a message of tick t
+pub record Good (net : Network) (r : Run) (t : ℕ) (m : Message) : Type 0 where
+  pub stream : m .stream < length (net .streams)
+  pub released : m .released ≡ t
+  pub least : streamAt net (m .stream) .least ≤ m .size
+  pub most : m .size ≤ streamAt net (m .stream) .size
+  pub delay-least : net .sendLeast ≤ r .choice t .send m
+
+pub good : (net : Network) (r : Run) → Permitted net r → (t : ℕ) (m : Message) → List·Memᴰ m (released r t) → Good net r t m
+good net r per t m k =
+    let w = was-message t 0 (r .releases t) m k in
+    let z = per (suc t) .sized t (w .release) (le-refl (suc t)) (w .there) in
+    record {
+      stream = rw (w .stream) at (z .stream);
+      released = w .released;
+      least = rw (w .stream, w .size) at (z .least);
+      most = rw (w .stream, w .size) at (z .greatest);
+      delay-least = per (suc t) .send-least t m (le-refl (suc t)) k;
+    }
 
 -- each release has its message
 pub record Of (t i : ℕ) (xs : List Release) (x : Release) : Type 0 where

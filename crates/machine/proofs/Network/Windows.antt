@@ -2,20 +2,25 @@
 -- Assumes nothing.
 use Prim.Native.Nat.{ℕ, _+_, _*_, _-_, _≤_, _<_}
 use mathlib.Core.Option.{Option, none, some}
-use mathlib.Core.Path.{_≡_}
+use mathlib.Core.Path.{_≡_, refl}
 use lib.ListN.{length}
 use Rattle.base.specs.Tests.{numberOr0}
 use Rattle.frame.specs.Packets.{packets}
 use Rattle.network.specs.Network.{Network, vlAt, streamAt, portAt, hopAt, parentAt}
 use Rattle.rows.specs.Links.{sendLine, sendSum, hopLine}
 use Rattle.rows.specs.Ports.{portFlows, portFigure, jitterOf, figureOf}
-use Rattle.rows.specs.Queues.{queueFlows, queueLength}
+use Rattle.rows.specs.Queues.{queueFlows, queueLength, queueFigure}
+use Rattle.rows.specs.Rows.{queueOf}
 use Rattle.station.specs.Station.{brought, figure}
 
 module _ (net : Network) where
   -- the station's figure of a sub-link's queue: the queue figure is it less one gap
   unfoldable pub queueStation : ℕ → ℕ → ℕ
   queueStation v k = figure (queueFlows net v k) (numberOr0 (queueLength net v k))
+
+  pub queue-is : (s : ℕ) → queueStation (streamAt net s .vl) (streamAt net s .sublink) - vlAt net (streamAt net s .vl) .gap ≡ queueOf net s
+  unfolding queueOf queueFigure queueStation
+  queue-is s = refl
 
   abbrev pub soon-by : (ℕ → ℕ) → ℕ → Option ℕ → ℕ
   soon-by soon h none = sendLine net (hopAt net h .vl) + portAt net (hopAt net h .port) .least

@@ -1,81 +1,65 @@
--- Jobs that belong to flows: what they bring in a span is at most what the station's flows bring.
+-- Jobs of flows that are told by a number: what they bring in a span is at most what the station's flows bring.
 -- Assumes nothing.
-use Prim.Native.Nat.{ℕ, zero, _+_, _≤_, _*_}
-use mathlib.Core.Bool.{Bool, true, false}
-use mathlib.Core.List.{List, [], _∷_, List·Memᴰ, List·Memᴰ·head, List·Memᴰ·tail}
-use mathlib.Core.Logic.{inl, inr, _⊎_}
-use mathlib.Core.Path.{_≡_, refl, ap}
-use native.Mathlib.Nat.{le-of-eq, add-le-add, mul-le-mul-right, le-refl, le-trans}
+use Prim.Native.Nat.{ℕ, _+_, _≤_, _*_}
+use mathlib.Core.List.{List, [], _∷_, List·Memᴰ, List·Memᴰ·head, List·Memᴰ·tail, map}
+use mathlib.Core.Path.{_≡_, refl, sym, ap}
+use native.Mathlib.Nat.{le-of-eq, mul-le-mul-right, le-trans}
 use native.Mathlib.Omega.{arith}
-use lib.Dec.{T}
+use lib.Dec.{eqb, eqb-refl}
 use Rattle.base.specs.Tabulate.{total}
+use Rattle.base.proofs.Every.{is-true}
 use Rattle.station.specs.Station.{Flow, most, brought}
 use Rattle.machine.specs.Sum.{weigh, span, count, tally}
-use Rattle.machine.proofs.Lists.Sums.{span-mono, span-add, span-mul, span-zeros}
-
--- a flow, and which jobs are its
-pub record Class (Job : Type 0) : Type 0 where
-  pub flow : Flow
-  pub has : Job → Bool
-
-module _ {Job : Type 0} where
-  abbrev pub flows : List (Class Job) → List Flow
-  flows [] = []
-  flows (c ∷ cs) = c .flow ∷ flows cs
-
-  module _ (cost : Job → ℕ) where
-    -- the job is of one of the flows, and no dearer than it says
-    abbrev pub Covered : List (Class Job) → Job → Type 0
-    Covered [] j = ⊥
-    Covered (c ∷ cs) j = (T (c .has j) × (cost j ≤ c .flow .cost)) ⊎ Covered cs j
-
-    charge : List (Class Job) → List Job → ℕ
-    charge [] l = zero
-    charge (c ∷ cs) l = count (c .has) l * c .flow .cost + charge cs l
-
-    tally-one : (b : Bool) → T b → tally b ≡ 1
-    tally-one true h = refl
-    tally-one false h = absurd h
-
-    charge-less : (cs : List (Class Job)) (j : Job) (l : List Job) → charge cs l ≤ charge cs (j ∷ l)
-    unfolding charge total
-    charge-less [] j l = le-refl 0
-    charge-less (c ∷ cs) j l = omega (arith, charge-less cs j l)
-
-    charge-cons : (cs : List (Class Job)) (j : Job) (l : List Job) → Covered cs j → cost j + charge cs l ≤ charge cs (j ∷ l)
-    unfolding charge total
-    charge-cons [] j l h = absurd h
-    charge-cons (c ∷ cs) j l (inl h) = omega (arith, ap (λ (n : ℕ). n * c .flow .cost) (tally-one (c .has j) (h .0)), charge-less cs j l)
-    charge-cons (c ∷ cs) j l (inr h) = omega (arith, charge-cons cs j l h)
-
-    charge-nil : (cs : List (Class Job)) → charge cs [] ≡ zero
-    unfolding charge total
-    charge-nil [] = refl
-    charge-nil (c ∷ cs) = omega (arith, charge-nil cs)
-
-    cost-charge : (cs : List (Class Job)) (l : List Job) → ((j : Job) → List·Memᴰ j l → Covered cs j) → weigh cost l ≤ charge cs l
-    unfolding total
-    cost-charge cs [] h = omega arith
-    cost-charge cs (j ∷ l) h = omega (arith, cost-charge cs l (λ i m. h i (List·Memᴰ·tail m)), charge-cons cs j l (h j (List·Memᴰ·head refl)))
-
-    -- in any span a flow's jobs are at most what the flow brings
-    abbrev pub Kept : (ℕ → List Job) → List (Class Job) → Type 0
-    Kept ins [] = Unit {0}
-    Kept ins (c ∷ cs) = ((x d : ℕ) → span (λ t. count (c .has) (ins t)) x d ≤ most (c .flow) d) × Kept ins cs
-
-    span-charge : (ins : ℕ → List Job) (cs : List (Class Job)) → Kept ins cs → (x d : ℕ) → span (λ t. charge cs (ins t)) x d ≤ brought (flows cs) d
-    unfolding charge brought
-    span-charge ins [] k x d = le-of-eq (span-zeros x d)
-    span-charge ins (c ∷ cs) k x d =
-        le-trans (le-of-eq (span-add (λ t. count (c .has) (ins t) * c .flow .cost) (λ t. charge cs (ins t)) x d))
-        (add-le-add
-        (le-trans (le-of-eq (span-mul (λ t. count (c .has) (ins t)) (c .flow .cost) x d)) (mul-le-mul-right (c .flow .cost) (k .0 x d)))
-        (span-charge ins cs (k .1) x d))
-
-    pub works-bound : (ins : ℕ → List Job) (cs : List (Class Job)) → ((t : ℕ) (j : Job) → List·Memᴰ j (ins t) → Covered cs j) → Kept ins cs
-        → (x d : ℕ) → span (λ t. weigh cost (ins t)) x d ≤ brought (flows cs) d
-    works-bound ins cs h k x d = le-trans (span-mono (λ t. weigh cost (ins t)) (λ t. charge cs (ins t)) (λ t. cost-charge cs (ins t) (h t)) x d) (span-charge ins cs k x d)
+use Rattle.machine.proofs.Lists.Sums.{span-mono, span-mul, span-sum, weigh-part}
 
 pub most-pos : (f : Flow) (d : ℕ) → 1 ≤ most f d
 unfolding most
 most-pos f d = omega arith
+
+pub brought-is : (flow : ℕ → Flow) (d : ℕ) (ns : List ℕ) → brought (map flow ns) d ≡ weigh (λ s. most (flow s) d * flow s .cost) ns
+unfolding total brought
+brought-is flow d [] = refl
+brought-is flow d (s ∷ ns) = omega (arith, brought-is flow d ns)
+
+module _ {Job : Type 0} (cost key : Job → ℕ) (flow : ℕ → Flow) where
+  -- how many of the list are of flow s
+  abbrev pub of : ℕ → List Job → ℕ
+  of s l = count (λ j. eqb (key j) s) l
+
+  charge : List ℕ → List Job → ℕ
+  charge ns l = weigh (λ s. of s l * flow s .cost) ns
+
+  charge-cons : (j : Job) (l : List Job) (ns : List ℕ)
+      → charge ns (j ∷ l) ≡ charge ns l + weigh (λ s. tally (eqb (key j) s) * flow s .cost) ns
+  unfolding charge total
+  charge-cons j l [] = refl
+  charge-cons j l (s ∷ ns) = omega (arith, charge-cons j l ns)
+
+  -- each job is of one of the flows, and no dearer than that says; in any span a flow's jobs are at most what it brings
+  abbrev pub Covered : List ℕ → List Job → Type 0
+  Covered ns l = (j : Job) → List·Memᴰ j l → List·Memᴰ (key j) ns × (cost j ≤ flow (key j) .cost)
+
+  module _ (ns : List ℕ) (ins : ℕ → List Job) (covered : (t : ℕ) → Covered ns (ins t))
+      (kept : (s : ℕ) → List·Memᴰ s ns → (x d : ℕ) → span (λ t. of s (ins t)) x d ≤ most (flow s) d)
+    where
+      cost-charge : (l : List Job) → Covered ns l → weigh cost l ≤ charge ns l
+      unfolding total
+      cost-charge [] h = omega arith
+      cost-charge (j ∷ l) h =
+          let k = key j in
+          let i = h j (List·Memᴰ·head refl) in
+          omega (
+            arith,
+            cost-charge l (λ y m. h y (List·Memᴰ·tail m)),
+            charge-cons j l ns,
+            weigh-part (λ s. tally (eqb k s) * flow s .cost) k ns (i .0),
+            ap (λ (b : _). tally b * flow k .cost) (is-true (eqb k k) (eqb-refl k)),
+          )
+
+      pub works-bound : (x d : ℕ) → span (λ t. weigh cost (ins t)) x d ≤ brought (map flow ns) d
+      unfolding charge
+      works-bound x d =
+          le-trans (span-mono (λ t. weigh cost (ins t)) (λ t. charge ns (ins t)) (λ t. cost-charge (ins t) (covered t)) x d)
+          (le-trans (span-sum (λ t s. of s (ins t) * flow s .cost) (λ s. most (flow s) d * flow s .cost) x d ns
+          (λ s m. rw (span-mul (λ t. of s (ins t)) (flow s .cost) x d) (mul-le-mul-right (flow s .cost) (kept s m x d))))
+          (le-of-eq (sym (brought-is flow d ns))))

@@ -10,21 +10,36 @@ use lib.Dec.{eqb, T, eqb→eq, eqb-refl}
 use lib.ListN.{length}
 use Rattle.base.specs.Tabulate.{passing}
 use Rattle.base.proofs.Every.{left, right}
-use Rattle.network.specs.Network.{Network, streamAt, portAt, hopAt}
-use Rattle.rows.specs.Queues.{queueFlow}
-use Rattle.station.specs.Station.{most}
+use Rattle.network.specs.Network.{Network, vlAt, streamAt, portAt, hopAt}
+use Rattle.rows.specs.Queues.{queueFlow, queueFlows}
+use Rattle.station.specs.Station.{most, brought}
 use Rattle.machine.specs.Sum.{span}
 use Rattle.machine.specs.Lists.{chosen, gather}
 use Rattle.machine.specs.Messages.{Release, Message, Frame}
 use Rattle.machine.specs.Permitted.{streamFlow, Sized, releasedBy}
 use Rattle.machine.specs.Sound.{Sound}
-use Rattle.machine.specs.Runs.{Planned}
+use Rattle.machine.specs.Runs.{Planned, RunsAs}
 use Rattle.machine.proofs.Lists.Cases.{eq→eqb, by-test, both}
 use Rattle.machine.proofs.Stage.Flows.{most-pos}
-use Rattle.machine.proofs.Stage.Select.{was-chosen, is-chosen, is-passing, was-passing, was-gathered, is-gathered}
+use Rattle.machine.proofs.Stage.Select.{was-chosen, is-chosen, is-passing, was-passing, was-gathered, is-gathered, behind, behind-perm}
+use Rattle.machine.proofs.Network.Windows.{queueStation}
+use Rattle.machine.proofs.Network.Auto.{runs-so, reached-in-order}
 use Rattle.machine.proofs.Wait.Critical.{pattern-rate}
 
-module _ (net : Network) (sound : Sound net) (v s₁ d : ℕ) where
+-- what is aimed at: a VL with one sub-link, a stream of it, and a span in which its queue's station attains its figure
+pub record Aim (net : Network) : Type 0 where
+  pub vl : ℕ
+  pub row : vl < length (net .vls)
+  pub one-sub-link : vlAt net vl .sublinks ≡ 1
+  pub stream : ℕ
+  pub stream-row : stream < length (net .streams)
+  pub on-vl : streamAt net stream .vl ≡ vl
+  pub span : ℕ
+  pub attains : brought (queueFlows net vl 0) span ≡ queueStation net vl 0 + span
+
+module _ (net : Network) (sound : Sound net) (aim : Aim net) where
+  open Aim aim using (vl as v, stream as s₁, span as d)
+
   -- the streams of the one queue of VL v
   abbrev pub tests : ℕ → Bool
   tests s = eqb (streamAt net s .vl) v && eqb (streamAt net s .sublink) 0
@@ -148,6 +163,17 @@ module _ (net : Network) (sound : Sound net) (v s₁ d : ℕ) where
     receive-least = λ t h f. le-refl (net .receiveLeast);
     receive-greatest = λ t h f. sound .receive;
   }
+
+  -- ---- the run: in each tick the messages of stream s₁ come behind all others
+  abbrev pub late : Message → Bool
+  late m = eqb (m .stream) s₁
+
+  pub filled : RunsAs net fill send flight receive (λ w. 0) (λ e. 0)
+  filled = runs-so net fill send flight receive (λ w. 0) (λ e. 0) (behind late) plan (behind-perm late)
+
+  pub late-behind : (t : ℕ) → (l : List Message) × (filled .run .choice t .reach ≡ behind late l)
+  unfolding filled
+  late-behind = reached-in-order net fill send flight receive (λ w. 0) (λ e. 0) (behind late) plan (behind-perm late)
 
   -- ---- a message of stream s₁ is released in tick d + spread
   module _ (listed : List·Memᴰ s₁ ns) where

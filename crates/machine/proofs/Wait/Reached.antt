@@ -18,6 +18,7 @@ use Rattle.machine.specs.Turn.{lanesOf, fromTurn}
 use Rattle.machine.specs.Queue.{Queue}
 use Rattle.machine.specs.Messages.{Release, Message, Packet, number, vlOf, packetsIn, toLane}
 use Rattle.machine.specs.Machine.{Run, hands}
+use Rattle.machine.specs.Permitted.{Permitted}
 use Rattle.machine.specs.Sound.{Sound}
 use Rattle.machine.specs.Runs.{Reaches}
 use Rattle.machine.proofs.Lists.Cases.{not-both, eq→eqb, by-test}
@@ -26,50 +27,29 @@ use Rattle.machine.proofs.Lists.Sums.{upto, upto-same, grows, crosses}
 use Rattle.machine.proofs.Lists.Lanes.{lane-sum, added}
 use Rattle.machine.proofs.Stage.QueueSteps.{given}
 use Rattle.machine.proofs.Stage.Select.{was-chosen, behind, Ended, split-last}
-use Rattle.machine.proofs.Network.Told.{message-of, was-message, packets-pos, length-lines, length-number, number-last}
+use Rattle.machine.proofs.Network.Told.{arrival, message-of, was-message, packets-pos, length-lines, length-number, number-last}
 use Rattle.machine.proofs.Network.Trace.{ch, st, news, hands-is}
-use Rattle.machine.proofs.Network.Endless.{arrival, Endless, permitted}
 use Rattle.machine.proofs.Network.Windows.{queueStation, Windows}
 use Rattle.machine.proofs.Network.Arrivals.{test, reach-at, reach-delay}
 use Rattle.machine.proofs.Network.Queues.{bounds}
-use Rattle.machine.proofs.Network.Auto.{auto-first-sub, auto-ordered, auto-in-turn}
 use Rattle.machine.proofs.Wait.OneLane.{Ends-in, ends-over, ends-one, lane, last-out}
-use Rattle.machine.proofs.Wait.Fill.{spread, n, rel, fill, send, flight, receive, arrives, last-released}
-use Rattle.machine.proofs.Wait.Worth.{Aim, late, r, per, rels-are, send-is, last, reach-time, came, P, worth-gap, listed, P-pos, s₀, c, conserved, goal, few, far, all-gone}
+use Rattle.machine.proofs.Wait.Fill.{Aim, spread, n, rel, late, filled, late-behind, arrives, last-released}
+use Rattle.machine.proofs.Wait.Worth.{r, per, rels-are, send-is, last, reach-time, came, P, worth-gap, listed, P-pos, s₀, c, conserved, goal, few, far, all-gone}
 
 module _ (net : Network) (sound : Sound net) (win : Windows net) (aim : Aim net) where
-  abbrev v : ℕ
-  v = aim .vl
-
-  abbrev hv : v < length (net .vls)
-  hv = aim .row
-
-  abbrev one : vlAt net v .sublinks ≡ 1
-  one = aim .one-sub-link
-
-  abbrev s₁ : ℕ
-  s₁ = aim .stream
-
-  abbrev on : s₁ < length (net .streams)
-  on = aim .stream-row
-
-  abbrev of : streamAt net s₁ .vl ≡ v
-  of = aim .on-vl
-
-  abbrev d : ℕ
-  d = aim .span
+  open Aim aim using (vl as v, row as hv, one-sub-link as one, stream as s₁, stream-row as on, on-vl as of, span as d)
 
   abbrev run : Run
   run = r net sound win aim
 
-  abbrev ok : Endless net run
+  abbrev ok : Permitted net run
   ok = per net sound win aim
 
   abbrev end : ℕ
   end = last net sound win aim
 
   abbrev mine : Message → Bool
-  mine = late net sound win aim
+  mine = late net sound aim
 
   abbrev gap : ℕ
   gap = vlAt net v .gap
@@ -81,23 +61,23 @@ module _ (net : Network) (sound : Sound net) (win : Windows net) (aim : Aim net)
 
   some-victim : (m : Message) × Victim m
   some-victim =
-      let u : ℕ = d + spread net sound v s₁ d in
-      let x = rel net sound v s₁ d s₁ (n net sound v s₁ d s₁ - 1) in
-      let i = last-released net sound v s₁ d (listed net sound win aim) in
+      let u : ℕ = d + spread net sound aim in
+      let x = rel net sound aim s₁ (n net sound aim s₁ - 1) in
+      let i = last-released net sound aim (listed net sound win aim) in
       let o = message-of u 0 (run .releases u) x (subst (λ (l : List Release). List·Memᴰ x l) (sym (rels-are net sound win aim u)) i) in
       let m = o .message in
       let f = reach-delay net sound run ok .forward u m (o .there) in
       let g : m .released ≡ u = was-message u 0 (run .releases u) m (o .there) .released in
       let a = reach-at net sound run ok (f .at) m (f .there) .0 in
-      let e : f .at ≡ end = omega (arith, a, ap (λ (t : ℕ). t + ch net run t .send m) g, send-is net sound win aim u m, arrives net sound v s₁ d u m) in
+      let e : f .at ≡ end = omega (arith, a, ap (λ (t : ℕ). t + ch net run t .send m) g, send-is net sound win aim u m, arrives net sound aim u m) in
       (m, record { there = subst (λ (t : ℕ). List·Memᴰ m (ch net run t .reach)) e (f .there); stream = o .stream })
 
   -- what comes in that tick: others, then those of stream s₁
   abbrev due : List Message
-  due = auto-ordered net (fill net sound v s₁ d) (send net sound v s₁ d) (flight net sound v s₁ d) (receive net sound v s₁ d) (λ w. 0) (λ e. 0) (behind mine) end .0
+  due = late-behind net sound aim end .0
 
   due-is : ch net run end .reach ≡ behind mine due
-  due-is = auto-ordered net (fill net sound v s₁ d) (send net sound v s₁ d) (flight net sound v s₁ d) (receive net sound v s₁ d) (λ w. 0) (λ e. 0) (behind mine) end .1
+  due-is = late-behind net sound aim end .1
 
   abbrev front : List Message
   front = chosen (λ m. not (mine m)) (λ m. m) due
@@ -213,7 +193,7 @@ module _ (net : Network) (sound : Sound net) (win : Windows net) (aim : Aim net)
   unfolding passing
   one-lane =
       ap (λ (f : ℕ → ℕ). lanesOf (fromTurn (f v) (passing (λ i. true) (vlAt net v .sublinks))))
-      (auto-first-sub net (fill net sound v s₁ d) (send net sound v s₁ d) (flight net sound v s₁ d) (receive net sound v s₁ d) (λ w. 0) (λ e. 0) (behind mine))
+      (filled net sound aim .first-sub-is)
       ∙ ap (λ (z : ℕ). lanesOf (fromTurn 0 (passing (λ i. true) z))) one
 
   added-is : (u : ℕ) → added length (news net run v u) (first .lanes) ≡ comes u
@@ -254,8 +234,8 @@ module _ (net : Network) (sound : Sound net) (win : Windows net) (aim : Aim net)
       let w = arithmetic (queueStation net v 0) gap all t (net .sendGreatest) d after-goal (omega (arith, q .0, victim-at, fs)) (worth-gap net sound win aim) some-come in
       record {
         run = run;
-        permitted = permitted net run ok;
-        in-turn = auto-in-turn net (fill net sound v s₁ d) (send net sound v s₁ d) (flight net sound v s₁ d) (receive net sound v s₁ d) (λ w. 0) (λ e. 0) (behind mine);
+        permitted = ok;
+        in-turn = filled net sound aim .in-turn;
         message = victim;
         stream = victim-stream;
         came = end;

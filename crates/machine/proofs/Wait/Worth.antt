@@ -1,14 +1,13 @@
 -- What the releases that fill a queue bring to it: packets that are worth the station's figure and d, none before the greatest send delay and none later than d after it; so few hand-overs come so soon, and all come in the end.
 -- Assumes nothing.
 use Prim.Native.Nat.{ℕ, zero, suc, _+_, _*_, _-_, _/_, _≤_, _<_}
-use mathlib.Core.Bool.{Bool, _&&_}
-use mathlib.Core.List.{List, [], _∷_, _++_, map, List·Memᴰ}
+use mathlib.Core.Bool.{_&&_}
+use mathlib.Core.List.{List, _++_, map, List·Memᴰ}
 use mathlib.Core.Path.{_≡_, refl, sym, ap, _∙_, subst}
 use native.Mathlib.Nat.{le-refl, le-trans, div-lt-iff-lt-mul, mul-pos}
 use native.Mathlib.Omega.{arith}
 use lib.Dec.{eqb, T, eqb→eq}
 use lib.ListN.{length}
-use Rattle.base.specs.Tabulate.{total}
 use Rattle.base.proofs.Every.{left}
 use Rattle.frame.specs.Packets.{packets, packetLines}
 use Rattle.network.specs.Network.{Network, vlAt, streamAt}
@@ -18,95 +17,42 @@ use Rattle.station.specs.Station.{brought}
 use Rattle.machine.specs.Sum.{weigh}
 use Rattle.machine.specs.Pool.{Due, setOut, landed}
 use Rattle.machine.specs.Queue.{Queue}
-use Rattle.machine.specs.Messages.{Release, Message, Packet, Frame, packetsIn}
+use Rattle.machine.specs.Messages.{Release, Message, Packet, packetsIn}
 use Rattle.machine.specs.Machine.{Run, released, start}
+use Rattle.machine.specs.Permitted.{Permitted}
 use Rattle.machine.specs.Sound.{Sound}
 use Rattle.machine.proofs.Lists.Cases.{eq→eqb, both}
 use Rattle.machine.proofs.Stage.Parts.{queue, handed, lands}
 use Rattle.machine.proofs.Lists.Sums.{upto, upto-same, upto-mono, grows, weigh-part}
-use Rattle.machine.proofs.Stage.Flows.{most-pos}
+use Rattle.machine.proofs.Stage.Flows.{most-pos, brought-is}
 use Rattle.machine.proofs.Lists.Turns.{Within, not-within}
 use Rattle.machine.proofs.Lists.Lanes.{lane-sum, added, lane-part, nobody, none-added}
 use Rattle.machine.proofs.Stage.QueueSteps.{tally-of, hand-count, origin, queue-kept}
 use Rattle.machine.proofs.Stage.Delay.{perm-weigh, all-landed}
 use Rattle.machine.proofs.Stage.Envelope.{upto-split}
-use Rattle.machine.proofs.Stage.Select.{is-passing, was-passing, chosen-all, behind, behind-perm}
-use Rattle.machine.proofs.Network.Told.{was-message, weigh-messages, packets-pos, length-lines, length-number}
+use Rattle.machine.proofs.Stage.Select.{is-passing, was-passing, chosen-all}
+use Rattle.machine.proofs.Network.Told.{arrival, was-message, weigh-messages, packets-pos, length-lines, length-number}
 use Rattle.machine.proofs.Network.Trace.{ch, news, sending-is}
-use Rattle.machine.proofs.Network.Endless.{arrival, Endless}
 use Rattle.machine.proofs.Network.Windows.{queueStation, Windows}
 use Rattle.machine.proofs.Network.Arrivals.{test, lane-weight, flow-cost, reach-at, reach-delay}
 use Rattle.machine.proofs.Network.Queues.{Origin, brought-facts, empty₀, named₀, left-due}
-use Rattle.machine.proofs.Network.Auto.{auto-run, auto-releases, auto-send, auto-permitted}
 use Rattle.machine.proofs.Wait.Critical.{all-brought}
-use Rattle.machine.proofs.Wait.Fill.{tests, ns, n, ρ, rel, fill, send, flight, receive, released-by, arrives, known, plan}
-
--- what is aimed at: a VL with one sub-link, a stream of it, and a span in which its queue's station attains its figure
-pub record Aim (net : Network) : Type 0 where
-  pub vl : ℕ
-  pub row : vl < length (net .vls)
-  pub one-sub-link : vlAt net vl .sublinks ≡ 1
-  pub stream : ℕ
-  pub stream-row : stream < length (net .streams)
-  pub on-vl : streamAt net stream .vl ≡ vl
-  pub span : ℕ
-  pub attains : brought (queueFlows net vl 0) span ≡ queueStation net vl 0 + span
+use Rattle.machine.proofs.Wait.Fill.{Aim, tests, ns, n, ρ, rel, fill, send, filled, released-by, arrives, known}
 
 module _ (net : Network) (sound : Sound net) (win : Windows net) (aim : Aim net) where
-  abbrev v : ℕ
-  v = aim .vl
-
-  abbrev hv : v < length (net .vls)
-  hv = aim .row
-
-  abbrev one : vlAt net v .sublinks ≡ 1
-  one = aim .one-sub-link
-
-  abbrev s₁ : ℕ
-  s₁ = aim .stream
-
-  abbrev on : s₁ < length (net .streams)
-  on = aim .stream-row
-
-  abbrev of : streamAt net s₁ .vl ≡ v
-  of = aim .on-vl
-
-  abbrev d : ℕ
-  d = aim .span
-
-  abbrev rels : ℕ → List Release
-  rels = fill net sound v s₁ d
-
-  abbrev streams : List ℕ
-  streams = ns net sound v s₁ d
-
-  abbrev times : ℕ → ℕ
-  times = n net sound v s₁ d
-
-  abbrev sends : ℕ → Message → ℕ
-  sends = send net sound v s₁ d
-
-  abbrev flights : ℕ → ℕ → Frame → ℕ
-  flights = flight net sound v s₁ d
-
-  abbrev receives : ℕ → ℕ → Frame → ℕ
-  receives = receive net sound v s₁ d
-
-  -- in each tick the messages of stream s₁ come behind all others
-  abbrev pub late : Message → Bool
-  late m = eqb (m .stream) s₁
+  open Aim aim using (vl as v, row as hv, one-sub-link as one, stream as s₁, stream-row as on, on-vl as of, span as d)
 
   abbrev pub r : Run
-  r = auto-run net rels sends flights receives (λ w. 0) (λ e. 0) (behind late)
+  r = filled net sound aim .run
 
-  pub per : Endless net r
-  per = auto-permitted net rels sends flights receives (λ w. 0) (λ e. 0) (behind late) (plan net sound v s₁ d) (behind-perm late)
+  abbrev pub per : Permitted net r
+  per = filled net sound aim .permitted
 
-  pub rels-are : (t : ℕ) → r .releases t ≡ rels t
-  rels-are t = ap (λ (f : ℕ → List Release). f t) (auto-releases net rels sends flights receives (λ w. 0) (λ e. 0) (behind late))
+  pub rels-are : (t : ℕ) → r .releases t ≡ fill net sound aim t
+  rels-are t = ap (λ (f : ℕ → List Release). f t) (filled net sound aim .releases-are)
 
-  pub send-is : (t : ℕ) (m : Message) → ch net r t .send m ≡ sends t m
-  send-is t m = ap (λ (f : Message → ℕ). f m) (auto-send net rels sends flights receives (λ w. 0) (λ e. 0) (behind late) t)
+  pub send-is : (t : ℕ) (m : Message) → ch net r t .send m ≡ send net sound aim t m
+  send-is t m = ap (λ (f : Message → ℕ). f m) (filled net sound aim .send-is t)
 
   abbrev nb : ℕ
   nb = vlAt net v .sublinks * vlAt net v .gap
@@ -126,12 +72,12 @@ module _ (net : Network) (sound : Sound net) (win : Windows net) (aim : Aim net)
   sent : (t : ℕ) (m : Message) → List·Memᴰ m (released r t) → Sent t m
   sent t m i =
       let a = was-message t 0 (r .releases t) m i in
-      let w = known net sound v s₁ d t (a .release) (subst (λ (l : List Release). List·Memᴰ (a .release) l) (rels-are t) (a .there)) in
+      let w = known net sound aim t (a .release) (subst (λ (l : List Release). List·Memᴰ (a .release) l) (rels-are t) (a .there)) in
       let e : w .s ≡ m .stream = ap (λ (z : Release). z .stream) (w .is) ∙ a .stream in
-      let u = released-by net sound v s₁ d (w .s) (w .k) (w .stream) (w .number) in
+      let u = released-by net sound aim (w .s) (w .k) (w .stream) (w .number) in
       record {
-        from = omega (arith, send-is t m, arrives net sound v s₁ d t m);
-        by-last = omega (arith, send-is t m, arrives net sound v s₁ d t m, u, w .now);
+        from = omega (arith, send-is t m, arrives net sound aim t m);
+        by-last = omega (arith, send-is t m, arrives net sound aim t m, u, w .now);
         here = subst (λ (z : ℕ). T (eqb (streamAt net z .vl) v && eqb (streamAt net z .sublink) 0)) e (w .passes);
       }
 
@@ -162,26 +108,21 @@ module _ (net : Network) (sound : Sound net) (win : Windows net) (aim : Aim net)
   landed-weight : (t : ℕ) → weigh cost (ch net r t .reach) ≡ weigh cost (lands (λ u. ch net r u .send) (released r) t)
   unfolding lands
   landed-weight t =
-      sym (perm-weigh cost (per .reach t)) ∙ ap (λ (l : List (Due Message)). weigh cost (landed t (l ++ setOut t (ch net r t .send) (released r t)))) (sending-is net r t)
+      sym (perm-weigh cost (per (suc t) .reach t (le-refl (suc t)))) ∙ ap (λ (l : List (Due Message)). weigh cost (landed t (l ++ setOut t (ch net r t .send) (released r t)))) (sending-is net r t)
 
   abbrev weight : Release → ℕ
   weight x = length (packetLines (x .size) (vlAt net (streamAt net (x .stream) .vl) .lmax)) * nb
 
-  released-weight : (t : ℕ) → weigh cost (released r t) ≡ weigh weight (rels t)
+  released-weight : (t : ℕ) → weigh cost (released r t) ≡ weigh weight (fill net sound aim t)
   released-weight t =
       weigh-messages cost weight
       (λ u i x. ap (λ (k : ℕ). k * nb) (length-number (record { released = u; place = i; stream = x .stream; size = x .size }) 0 (packetLines (x .size) (vlAt net (streamAt net (x .stream) .vl) .lmax))))
       t 0 (r .releases t)
       ∙ ap (weigh weight) (rels-are t)
 
-  total-brought : (l : List ℕ) → weigh (λ s. times s * queueFlow net s .cost) l ≡ brought (map (queueFlow net) l) d
-  unfolding total brought
-  total-brought [] = refl
-  total-brought (s ∷ l) = omega (arith, total-brought l)
-
-  same-cost : (s k : ℕ) → List·Memᴰ s streams → weight (rel net sound v s₁ d s k) ≡ queueFlow net s .cost
+  same-cost : (s k : ℕ) → List·Memᴰ s (ns net sound aim) → weight (rel net sound aim s k) ≡ queueFlow net s .cost
   same-cost s k m =
-      let w = was-passing (tests net sound v s₁ d) (length (net .streams)) s m in
+      let w = was-passing (tests net sound aim) (length (net .streams)) s m in
       let e : streamAt net s .vl ≡ v = eqb→eq (streamAt net s .vl) v (left (eqb (streamAt net s .vl) v) (eqb (streamAt net s .sublink) 0) (w .1)) in
       let hw = sound .references .stream-vl s (w .0) in
       ap (λ (z : ℕ). z * nb) (length-lines (vlAt net (streamAt net s .vl) .lmax) (streamAt net s .size) (sound .lmax-least (streamAt net s .vl) hw) (omega (arith, sound .least-size s (w .0), sound .size s (w .0))))
@@ -192,7 +133,7 @@ module _ (net : Network) (sound : Sound net) (win : Windows net) (aim : Aim net)
   abbrev pub P : ℕ
   P = upto came (suc last)
 
-  flows-are : brought (map (queueFlow net) streams) d ≡ queueStation net v 0 + d
+  flows-are : brought (map (queueFlow net) (ns net sound aim)) d ≡ queueStation net v 0 + d
   unfolding queueFlows streamsOn
   flows-are = aim .attains
 
@@ -202,11 +143,11 @@ module _ (net : Network) (sound : Sound net) (win : Windows net) (aim : Aim net)
       upto-mul came nb (suc last)
       ∙ upto-same (λ t. came t * nb) (λ t. weigh cost (lands (λ u. ch net r u .send) (released r) t)) (λ t. came-weight t ∙ landed-weight t) (suc last)
       ∙ all-landed (λ u. ch net r u .send) (released r) cost (suc last) (λ u m i. omega (arith, sent u m i .by-last))
-      ∙ upto-same (λ u. weigh cost (released r u)) (λ u. weigh weight (rels u)) released-weight (suc last)
-      ∙ all-brought weight (rel net sound v s₁ d) (ρ net sound v s₁ d) times (λ s. queueFlow net s .cost) (suc last) streams
-      (λ s k m i. let w = was-passing (tests net sound v s₁ d) (length (net .streams)) s m in omega (arith, released-by net sound v s₁ d s k (w .0) i, sound .send))
+      ∙ upto-same (λ u. weigh cost (released r u)) (λ u. weigh weight (fill net sound aim u)) released-weight (suc last)
+      ∙ all-brought weight (rel net sound aim) (ρ net sound aim) (n net sound aim) (λ s. queueFlow net s .cost) (suc last) (ns net sound aim)
+      (λ s k m i. let w = was-passing (tests net sound aim) (length (net .streams)) s m in omega (arith, released-by net sound aim s k (w .0) i, sound .send))
       same-cost
-      ∙ total-brought streams
+      ∙ sym (brought-is (queueFlow net) d (ns net sound aim))
       ∙ flows-are
 
   pub worth-gap : P * vlAt net v .gap ≡ queueStation net v 0 + d
@@ -216,8 +157,8 @@ module _ (net : Network) (sound : Sound net) (win : Windows net) (aim : Aim net)
   pos = sound .gap v hv
 
   -- there is a stream, so P is not 0
-  pub listed : List·Memᴰ s₁ streams
-  listed = is-passing (tests net sound v s₁ d) (length (net .streams)) s₁ on
+  pub listed : List·Memᴰ s₁ (ns net sound aim)
+  listed = is-passing (tests net sound aim) (length (net .streams)) s₁ on
       (both (eqb (streamAt net s₁ .vl) v) (eqb (streamAt net s₁ .sublink) 0) (eq→eqb (streamAt net s₁ .vl) v of)
       (eq→eqb (streamAt net s₁ .sublink) 0 (omega (arith, sound .references .stream-sub-link s₁ on, ap (λ (z : ℕ). vlAt net z .sublinks) of, one))))
 
@@ -235,7 +176,7 @@ module _ (net : Network) (sound : Sound net) (win : Windows net) (aim : Aim net)
 
       go : (q : ℕ) → q * vlAt net v .gap ≡ queueStation net v 0 + d → 0 < q
       go zero e =
-          absurd (omega (arith, flows-are, total-brought streams, weigh-part (λ s. times s * queueFlow net s .cost) s₁ streams listed, mul-pos (most-pos (queueFlow net s₁) d) c))
+          absurd (omega (arith, flows-are, brought-is (queueFlow net) d (ns net sound aim), weigh-part (λ s. n net sound aim s * queueFlow net s .cost) s₁ (ns net sound aim) listed, mul-pos (most-pos (queueFlow net s₁) d) c))
       go (suc q) e = omega arith
 
   -- ---- hand-overs
