@@ -68,10 +68,6 @@ module _ {X : Type 0} where
   each-append R off [] b h k = k
   each-append R off (l ∷ a) b h k = (subst (λ (n : ℕ). R l n) (omega (arith, length-append a b)) (h .0), each-append R off a b (h .1) k)
 
-  pub each-left : (R : Lane X → ℕ → Type 0) (off : ℕ) (a b : List (Lane X)) → Each R off (a ++ b) → Each R (length b + off) a
-  each-left R off [] b h = tt
-  each-left R off (l ∷ a) b h = (subst (λ (n : ℕ). R l n) (omega (arith, length-append a b)) (h .0), each-left R off a b (h .1))
-
   pub each-right : (R : Lane X → ℕ → Type 0) (off : ℕ) (a b : List (Lane X)) → Each R off (a ++ b) → Each R off b
   each-right R off [] b h = h
   each-right R off (l ∷ a) b h = each-right R off a b (h .1)

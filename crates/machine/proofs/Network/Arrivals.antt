@@ -24,9 +24,9 @@ use Rattle.machine.specs.Sound.{Sound}
 use Rattle.machine.proofs.Lists.Cases.{by-test}
 use Rattle.machine.proofs.Stage.Parts.{lands}
 use Rattle.machine.proofs.Lists.Sums.{span-same}
-use Rattle.machine.proofs.Stage.Delay.{Delay, _then_, reordered, on-the-way, landed-from, perm-mem}
-use Rattle.machine.proofs.Stage.Envelope.{any, envelope}
-use Rattle.machine.proofs.Stage.Select.{chosen-any, was-chosen, delay-chosen, delay-same, looser}
+use Rattle.machine.proofs.Stage.Delay.{Delay, _then_, reordered, on-the-way, landed-from, perm-mem, delay-chosen, delay-same, looser}
+use Rattle.machine.proofs.Stage.Envelope.{envelope}
+use Rattle.machine.proofs.Stage.Select.{chosen-any, was-chosen, any}
 use Rattle.machine.proofs.Network.Told.{arrival, Good, good, weigh-messages}
 use Rattle.machine.proofs.Network.Trace.{ch, st, sending-is}
 

@@ -28,9 +28,8 @@ use Rattle.machine.proofs.Lists.Sums.{span-mono, span-same, span-mul, s
 use Rattle.machine.proofs.Lists.Turns.{Empty, Named}
 use Rattle.machine.proofs.Lists.Lanes.{added}
 use Rattle.machine.proofs.Stage.MuxLaws.{brings, backward, forward, weighed, out-origin}
-use Rattle.machine.proofs.Stage.Delay.{Delay}
-use Rattle.machine.proofs.Stage.Envelope.{any}
-use Rattle.machine.proofs.Stage.Select.{was-chosen, is-chosen, chosen-weigh, delay-same, is-passing, was-passing, weigh-one}
+use Rattle.machine.proofs.Stage.Delay.{Delay, delay-same}
+use Rattle.machine.proofs.Stage.Select.{was-chosen, is-chosen, chosen-weigh, is-passing, was-passing, weigh-one, any}
 use Rattle.machine.proofs.Lists.Start.{lanes-empty, lanes-named, lanes-added, turn-mem, turn-weigh}
 use Rattle.machine.proofs.Network.Trace.{hand, looks, end-is, sent, sent-is}
 use Rattle.machine.proofs.Network.Windows.{Windows}

@@ -30,9 +30,9 @@ use Rattle.machine.proofs.Stage.Parts.{fifo-out}
 use Rattle.machine.proofs.Lists.Sums.{span-same}
 use Rattle.machine.proofs.Stage.FifoLaws as FifoLaws
 use Rattle.machine.proofs.Stage.Flows.{Covered, works-bound}
-use Rattle.machine.proofs.Stage.Delay.{Delay, _then_, reordered, on-the-way, perm-mem}
-use Rattle.machine.proofs.Stage.Envelope.{any, envelope}
-use Rattle.machine.proofs.Stage.Select.{was-chosen, is-chosen, chosen-any, delay-chosen, delay-same, looser, hops-at, was-gathered}
+use Rattle.machine.proofs.Stage.Delay.{Delay, _then_, reordered, on-the-way, perm-mem, delay-chosen, delay-same, looser}
+use Rattle.machine.proofs.Stage.Envelope.{envelope}
+use Rattle.machine.proofs.Stage.Select.{was-chosen, is-chosen, chosen-any, hops-at, was-gathered, any}
 use Rattle.machine.proofs.Network.Trace.{ch, st, port-is, hand, source, lands-at, lands-is, into, left, left-is, done, done-is}
 use Rattle.machine.proofs.Network.Windows.{Windows, soon-by, late-by}
 use Rattle.machine.proofs.Network.Queues.{hand-fact, hand-rate}

@@ -34,8 +34,7 @@ use Rattle.machine.proofs.Stage.Flows.{Covered, works-bound}
 use Rattle.machine.proofs.Lists.Turns.{Empty, Named, Within}
 use Rattle.machine.proofs.Stage.QueueSteps.{hand-count, tally-of, hand-origin}
 use Rattle.machine.proofs.Stage.QueueLaws.{Low, low-append, hand-bounds, forward, still-due, Gone}
-use Rattle.machine.proofs.Stage.Envelope.{any}
-use Rattle.machine.proofs.Stage.Select.{count-chosen, was-chosen, is-passing, was-passing}
+use Rattle.machine.proofs.Stage.Select.{count-chosen, was-chosen, is-passing, was-passing, any}
 use Rattle.machine.proofs.Lists.Start.{lanes-empty, lanes-length, lanes-named, turn-length, turn-mem, passing-all}
 use Rattle.machine.proofs.Network.Told.{arrival, Good, packets-mono, length-lines, length-number, was-number, is-number}
 use Rattle.machine.proofs.Network.Trace.{ch, news, hand, hand-is}

@@ -1,17 +1,19 @@
 -- A stage that keeps what comes for a time between two bounds: each thing leaves, comes from before, and is not doubled: by any weight, no more is out than was in.
 -- Assumes nothing.
 use Prim.Native.Nat.{ℕ, zero, suc, _+_, _≤_, _<_}
-use mathlib.Core.Bool.{cond}
-use mathlib.Core.List.{List, [], _∷_, _++_, List·Memᴰ, List·Memᴰ·head, List·Memᴰ·tail, List·Memᴰ·not-nil, List·Memᴰ·cases-cons, List·Memᴰ·append-cases, Memᴰ·append-left, Memᴰ·append-right, Memᴰ·cast, List·Permᴰ, List·Permᴰ·nil, List·Permᴰ·cons, List·Permᴰ·swap, List·Permᴰ·trans, Permᴰ·symm}
-use mathlib.Core.Logic.{_⊎_, inl, inr, ⊎-elim}
-use mathlib.Core.Path.{_≡_, refl, sym, ap, _∙_, subst}
-use native.Mathlib.Nat.{le-of-eq, le-trans, add-zero}
+use mathlib.Core.Bool.{Bool, true, false, not, cond}
+use mathlib.Core.List.{List, [], _∷_, _++_, List·Memᴰ, List·Memᴰ·head, List·Memᴰ·tail, List·Memᴰ·cases-cons, List·Memᴰ·append-cases, Memᴰ·append-left, Memᴰ·append-right, Memᴰ·cast, List·Permᴰ, List·Permᴰ·nil, List·Permᴰ·cons, List·Permᴰ·swap, List·Permᴰ·trans, Permᴰ·symm}
+use mathlib.Core.Logic.{_⊎_, ⊎-elim}
+use mathlib.Core.Path.{_≡_, refl, sym, ap, _∙_, subst, subst₂, fun-ext}
+use native.Mathlib.Nat.{le-of-eq, le-trans}
 use native.Mathlib.Omega.{arith}
-use lib.Dec.{leb}
+use lib.Dec.{leb, leb→le, le→leb, nleb→lt}
 use Rattle.base.specs.Tabulate.{total}
 use Rattle.machine.specs.Sum.{weigh}
+use Rattle.machine.specs.Lists.{chosen}
 use Rattle.machine.specs.Pool.{Due, setOut, landed, later}
-use Rattle.machine.proofs.Lists.Cases.{by-leb, by-leb₂}
+use Rattle.machine.proofs.Lists.Cases.{by-leb₂, lt→nleb}
+use Rattle.machine.proofs.Stage.Select.{any, was-chosen, is-chosen, chosen-weigh}
 use Rattle.machine.proofs.Stage.Parts.{pool, lands}
 use Rattle.machine.proofs.Lists.Sums.{upto, upto-same, weigh-append}
 
@@ -69,55 +71,30 @@ module _ {X : Type 0} where
     weighed = λ w t. le-of-eq (upto-same (λ u. weigh w (g u)) (λ u. weigh w (f u)) (λ u. sym (perm-weigh w (h u))) t);
   }
 
-  -- ---- things on their way
-  landed-append : (t : ℕ) (a b : List (Due X)) → (x : X) → List·Memᴰ x (landed t a) ⊎ List·Memᴰ x (landed t b) → List·Memᴰ x (landed t (a ++ b))
-  landed-append t [] b x (inl m) = absurd (List·Memᴰ·not-nil m)
-  landed-append t [] b x (inr m) = m
-  landed-append t (d ∷ a) b x (inl m) = ⊎-elim
-      (λ i. Memᴰ·append-left (landed t (a ++ b)) i)
-      (λ i. Memᴰ·append-right (cond (leb (d .at) t) (d .item ∷ []) []) (landed-append t a b x (inl i)))
-      (List·Memᴰ·append-cases (cond (leb (d .at) t) (d .item ∷ []) []) m)
-  landed-append t (d ∷ a) b x (inr m) = Memᴰ·append-right (cond (leb (d .at) t) (d .item ∷ []) []) (landed-append t a b x (inr m))
+  pub delay-same : {f g f′ g′ : ℕ → List X} {lo hi : ℕ} → ((t : ℕ) → f t ≡ f′ t) → ((t : ℕ) → g t ≡ g′ t) → Delay f g lo hi → Delay f′ g′ lo hi
+  delay-same {lo = lo} {hi = hi} h k d = subst₂ (λ (a b : ℕ → List X). Delay a b lo hi) (fun-ext h) (fun-ext k) d
 
-  -- a thing that is due lands or stays
-  due-goes : (t : ℕ) (d : Due X) (ds : List (Due X)) → List·Memᴰ d ds → d .at ≤ t → List·Memᴰ (d .item) (landed t ds)
-  due-goes t d (c ∷ ds) (List·Memᴰ·head e) h = Memᴰ·append-left (landed t ds)
-      (by-leb (c .at) t (λ (o : List X). List·Memᴰ (d .item) o) (λ b. List·Memᴰ·head (ap (λ (z : Due X). z .item) e)) (λ b. absurd (omega (arith, ap (λ (z : Due X). z .at) e))))
-  due-goes t d (c ∷ ds) (List·Memᴰ·tail m) h = Memᴰ·append-right (cond (leb (c .at) t) (c .item ∷ []) []) (due-goes t d ds m h)
+  pub looser : {f g : ℕ → List X} {lo hi lo′ hi′ : ℕ} → lo′ ≤ lo → hi ≤ hi′ → Delay f g lo hi → Delay f g lo′ hi′
+  looser a b d = record {
+    forward = λ t x m. let r = d .forward t x m in record { at = r .at; there = r .there; least = omega arith; most = omega arith };
+    backward = λ t x m. let r = d .backward t x m in record { at = r .at; there = r .there; least = omega (arith, r .least); most = omega (arith, r .most) };
+    weighed = d .weighed;
+  }
 
-  due-stays : (t : ℕ) (d : Due X) (ds : List (Due X)) → List·Memᴰ d ds → t < d .at → List·Memᴰ d (later t ds)
-  due-stays t d (c ∷ ds) (List·Memᴰ·head e) h = Memᴰ·append-left (later t ds)
-      (by-leb (c .at) t (λ (o : List (Due X)). List·Memᴰ d o) (λ b. absurd (omega (arith, ap (λ (z : Due X). z .at) e))) (λ b. List·Memᴰ·head e))
-  due-stays t d (c ∷ ds) (List·Memᴰ·tail m) h = Memᴰ·append-right (cond (leb (c .at) t) [] (c ∷ [])) (due-stays t d ds m h)
+  -- ---- things on their way: what lands, what stays and what sets out are parts of lists
+  landed-is : (t : ℕ) (ds : List (Due X)) → landed t ds ≡ chosen (λ d. leb (d .at) t) (λ d. d .item) ds
+  landed-is t [] = refl
+  landed-is t (d ∷ ds) = rw (landed-is t ds)
 
-  was-due : (t : ℕ) (x : X) (ds : List (Due X)) → List·Memᴰ x (landed t ds) → (d : Due X) × List·Memᴰ d ds × (d .item ≡ x) × (d .at ≤ t)
-  was-due t x (c ∷ ds) m = ⊎-elim
-      (by-leb (c .at) t (λ (o : List X). List·Memᴰ x o → (d : Due X) × List·Memᴰ d (c ∷ ds) × (d .item ≡ x) × (d .at ≤ t))
-      (λ b i. ⊎-elim (λ e. (c, List·Memᴰ·head refl, sym e, b)) (λ j. absurd (List·Memᴰ·not-nil j)) (List·Memᴰ·cases-cons i))
-      (λ b i. absurd (List·Memᴰ·not-nil i)))
-      (λ i. let r = was-due t x ds i in (r .0, List·Memᴰ·tail (r .1), r .2, r .3))
-      (List·Memᴰ·append-cases (cond (leb (c .at) t) (c .item ∷ []) []) m)
-  was-due t x [] m = absurd (List·Memᴰ·not-nil m)
+  later-is : (t : ℕ) (ds : List (Due X)) → later t ds ≡ chosen (λ d. not (leb (d .at) t)) (λ d. d) ds
+  later-is t [] = refl
+  later-is t (d ∷ ds) = rw (later-is t ds)
+      (elim (leb (d .at) t) as (λ b. let l = chosen (λ c. not (leb (c .at) t)) (λ c. c) ds in cond b [] (d ∷ []) ++ l ≡ cond (not b) (d ∷ []) [] ++ l)
+      [ true ↦ refl | false ↦ refl ])
 
-  was-later : (t : ℕ) (d : Due X) (ds : List (Due X)) → List·Memᴰ d (later t ds) → List·Memᴰ d ds × (t < d .at)
-  was-later t d (c ∷ ds) m = ⊎-elim
-      (by-leb (c .at) t (λ (o : List (Due X)). List·Memᴰ d o → List·Memᴰ d (c ∷ ds) × (t < d .at))
-      (λ b i. absurd (List·Memᴰ·not-nil i))
-      (λ b i. ⊎-elim (λ e. (List·Memᴰ·head e, omega (arith, ap (λ (z : Due X). z .at) e))) (λ j. absurd (List·Memᴰ·not-nil j)) (List·Memᴰ·cases-cons i)))
-      (λ i. let r = was-later t d ds i in (List·Memᴰ·tail (r .0), r .1))
-      (List·Memᴰ·append-cases (cond (leb (c .at) t) [] (c ∷ [])) m)
-  was-later t d [] m = absurd (List·Memᴰ·not-nil m)
-
-  sets-out : (t : ℕ) (delay : X → ℕ) (x : X) (l : List X) → List·Memᴰ x l → List·Memᴰ (record { item = x; at = t + delay x }) (setOut t delay l)
-  sets-out t delay x (y ∷ l) (List·Memᴰ·head e) = List·Memᴰ·head (ap (λ (z : X). record { item = z; at = t + delay z }) e)
-  sets-out t delay x (y ∷ l) (List·Memᴰ·tail m) = List·Memᴰ·tail (sets-out t delay x l m)
-
-  was-out : (t : ℕ) (delay : X → ℕ) (d : Due X) (l : List X) → List·Memᴰ d (setOut t delay l) → List·Memᴰ (d .item) l × (d .at ≡ t + delay (d .item))
-  was-out t delay d (y ∷ l) m = ⊎-elim
-      (λ e. (List·Memᴰ·head (ap (λ (z : Due X). z .item) e), ap (λ (z : Due X). z .at) e ∙ ap (λ (z : X). t + delay z) (sym (ap (λ (z : Due X). z .item) e))))
-      (λ i. let r = was-out t delay d l i in (List·Memᴰ·tail (r .0), r .1))
-      (List·Memᴰ·cases-cons m)
-  was-out t delay d [] m = absurd (List·Memᴰ·not-nil m)
+  out-is : (t : ℕ) (delay : X → ℕ) (l : List X) → setOut t delay l ≡ chosen any (λ x. record { item = x; at = t + delay x }) l
+  out-is t delay [] = refl
+  out-is t delay (x ∷ l) = rw (out-is t delay l)
 
   landed-weigh : (w : X → ℕ) (t : ℕ) (ds : List (Due X)) → weigh w (landed t ds) + weigh (λ d. w (d .item)) (later t ds) ≡ weigh (λ d. w (d .item)) ds
   unfolding total
@@ -142,20 +119,30 @@ module _ {X : Type 0} where
       now : t ≤ d .at
 
     from-out : (t : ℕ) (d : Due X) → List·Memᴰ d (setOut t (delay t) (ins t)) → From t d
-    from-out t d m = let r = was-out t (delay t) d (ins t) m in record { at = t; there = r .0; ends = r .1; now = omega (arith, r .1) }
+    from-out t d m =
+        let o = was-chosen any (λ x. record { item = x; at = t + delay t x }) (ins t) d (rw (out-is t (delay t) (ins t)) at m) in
+        subst (From t) (o .is) (record { at = t; there = o .there; ends = refl; now = omega arith })
 
     from : (t : ℕ) (d : Due X) → List·Memᴰ d (all t) → From t d
     unfolding pool
     from zero d m = from-out zero d m
     from (suc t) d m = ⊎-elim
-        (λ i. let r = was-later t d (all t) i in let k = from t d (r .0) in record { at = k .at; there = k .there; ends = k .ends; now = r .1 })
+        (λ i.
+        let o = was-chosen (λ c. not (leb (c .at) t)) (λ c. c) (all t) d (rw (later-is t (all t)) at i) in
+        let k = from t (o .from) (o .there) in
+        subst (From (suc t)) (o .is) (record { at = k .at; there = k .there; ends = k .ends; now = nleb→lt (o .from .at) t (o .passes) }))
         (λ i. from-out (suc t) d i)
         (List·Memᴰ·append-cases (pool delay ins (suc t)) m)
 
     goes : (n t : ℕ) (d : Due X) → d .at ≡ t + n → List·Memᴰ d (all t) → List·Memᴰ (d .item) (lands delay ins (d .at))
     unfolding lands pool
-    goes zero t d e m = subst (λ (u : ℕ). List·Memᴰ (d .item) (landed u (all u))) (sym (e ∙ add-zero t)) (due-goes t d (all t) m (omega arith))
-    goes (suc n) t d e m = goes n (suc t) d (omega arith) (Memᴰ·append-left (setOut (suc t) (delay (suc t)) (ins (suc t))) (due-stays t d (all t) m (omega arith)))
+    goes zero t d e m =
+        let e′ : d .at ≡ t = omega arith in
+        rw (e′, landed-is t (all t)) (is-chosen (λ c. leb (c .at) t) (λ c. c .item) (all t) d m (le→leb (d .at) t (omega arith)))
+    goes (suc n) t d e m =
+        let stays : List·Memᴰ d (later t (all t)) =
+        rw (later-is t (all t)) (is-chosen (λ c. not (leb (c .at) t)) (λ c. c) (all t) d m (lt→nleb (d .at) t (omega arith))) in
+        goes n (suc t) d (omega arith) (Memᴰ·append-left (setOut (suc t) (delay (suc t)) (ins (suc t))) stays)
 
     kept : (w : X → ℕ) (t : ℕ) → upto (λ u. weigh w (lands delay ins u)) t + weigh (λ d. w (d .item)) (pool delay ins t) ≡ upto (λ u. weigh w (ins u)) t
     unfolding upto lands pool total
@@ -179,23 +166,37 @@ module _ {X : Type 0} where
     pub landed-from : (t : ℕ) (x : X) → List·Memᴰ x (lands delay ins t) → (u : ℕ) × List·Memᴰ x (ins u) × (u + delay u x ≡ t)
     unfolding lands
     landed-from t x m =
-        let r = was-due t x (all t) m in
-        let f = from t (r .0) (r .1) in
-        (f .at, Memᴰ·cast (sym (r .2)) (f .there), omega (arith, r .3, f .ends, f .now, ap (delay (f .at)) (r .2)))
+        let o = was-chosen (λ d. leb (d .at) t) (λ d. d .item) (all t) x (rw (landed-is t (all t)) at m) in
+        let f = from t (o .from) (o .there) in
+        let e = leb→le (o .from .at) t (o .passes) in
+        (f .at, rw (o .is) at (f .there), omega (arith, f .ends, f .now, ap (delay (f .at)) (o .is)))
 
     pub on-the-way : (lo hi : ℕ) → ((t : ℕ) (x : X) → List·Memᴰ x (ins t) → (lo ≤ delay t x) × (delay t x ≤ hi)) → Delay ins (lands delay ins) lo hi
-    unfolding lands
     on-the-way lo hi h = record {
-      forward = λ t x m. let b = h t x m in record {
-        at = t + delay t x;
-        there = goes (delay t x) t (record { item = x; at = t + delay t x }) refl (Memᴰ·append-right (pool delay ins t) (sets-out t (delay t) x (ins t) m));
-        least = omega arith;
-        most = omega arith;
-      };
+      forward = λ t x m.
+          let b = h t x m in
+          let d : Due X = record { item = x; at = t + delay t x } in
+          let out : List·Memᴰ d (setOut t (delay t) (ins t)) =
+          rw (out-is t (delay t) (ins t)) (is-chosen any (λ y. record { item = y; at = t + delay t y }) (ins t) x m tt) in
+          record { at = d .at; there = goes (delay t x) t d refl (Memᴰ·append-right (pool delay ins t) out); least = omega arith; most = omega arith };
       backward = λ t x m.
-          let r = was-due t x (all t) m in
-          let f = from t (r .0) (r .1) in
-          let b = h (f .at) (r .0 .item) (f .there) in
-          record { at = f .at; there = Memᴰ·cast (sym (r .2)) (f .there); least = omega (arith, r .3, f .ends, f .now); most = omega (arith, r .3, f .ends, f .now) };
+          let f = landed-from t x m in
+          let b = h (f .0) x (f .1) in
+          record { at = f .0; there = f .1; least = omega (arith, f .2); most = omega (arith, f .2) };
       weighed = λ w t. omega (arith, kept w t);
     }
+
+-- a part of what passes through a stage passes through it
+module _ {X Y : Type 0} (p : X → Bool) (f : X → Y) where
+  pub delay-chosen : {ins out : ℕ → List X} {lo hi : ℕ} → Delay ins out lo hi → Delay (λ t. chosen p f (ins t)) (λ t. chosen p f (out t)) lo hi
+  delay-chosen {ins} {out} d = record {
+    forward = λ t y m.
+        let r = was-chosen p f (ins t) y m in
+        let a = d .forward t (r .from) (r .there) in
+        record { at = a .at; there = Memᴰ·cast (sym (r .is)) (is-chosen p f (out (a .at)) (r .from) (a .there) (r .passes)); least = a .least; most = a .most };
+    backward = λ t y m.
+        let r = was-chosen p f (out t) y m in
+        let a = d .backward t (r .from) (r .there) in
+        record { at = a .at; there = Memᴰ·cast (sym (r .is)) (is-chosen p f (ins (a .at)) (r .from) (a .there) (r .passes)); least = a .least; most = a .most };
+    weighed = λ w t. simp (chosen-weigh p f w) (d .weighed (λ x. cond (p x) (w (f x)) 0) t);
+  }

@@ -15,6 +15,7 @@ use Rattle.station.specs.Station.{Flow, most}
 use Rattle.machine.specs.Sum.{span, count, tally}
 use Rattle.machine.proofs.Lists.Cases.{both}
 use Rattle.machine.proofs.Lists.Sums.{span-suc, span-mono, span-same, span-zeros, upto}
+use Rattle.machine.proofs.Stage.Select.{any}
 use Rattle.machine.proofs.Stage.Delay.{Delay}
 
 pub div-mono : (a b k : ℕ) → 0 < k → a ≤ b → a / k ≤ b / k
@@ -35,9 +36,6 @@ span-tail f a w zero h = ap (span f a) (add-zero w)
 span-tail f a w (suc j) h = ap (span f a) (add-suc w j) ∙ (omega (arith, span-suc f a (w + j), span-tail f a w j h, h (suc (a + (w + j))) (omega arith)))
 
 module _ {X : Type 0} where
-  abbrev pub any : X → Bool
-  any x = true
-
   count-most : (p : X → Bool) (l : List X) → ((x : X) → List·Memᴰ x l → T (p x)) → count any l ≤ count p l
   unfolding total
   count-most p [] h = le-refl 0

@@ -4,7 +4,7 @@ use Prim.Native.Nat.{ℕ, zero, suc, _+_, _≤_, _<_}
 use mathlib.Core.Bool.{Bool, true, false, cond, not}
 use mathlib.Core.List.{List, [], _∷_, _++_, List·Memᴰ, List·Memᴰ·head, List·Memᴰ·tail, List·Permᴰ, List·Permᴰ·nil, List·Permᴰ·cons, List·Permᴰ·trans, Permᴰ·symm, Permᴰ·middle, Memᴰ·append-left, Memᴰ·append-right, append-nil, List·Memᴰ·not-nil, List·Memᴰ·cases-cons, List·Memᴰ·append-cases}
 use mathlib.Core.Logic.{inl, inr, dite, _⊎_, ⊎-elim, _≢_}
-use mathlib.Core.Path.{_≡_, refl, sym, ap, _∙_, subst, subst₂, fun-ext}
+use mathlib.Core.Path.{_≡_, refl, sym, ap, _∙_, subst}
 use native.Mathlib.Decide.{decLt}
 use native.Mathlib.Nat.{le-refl, eq-or-lt-of-le, le-of-suc-le-suc}
 use native.Mathlib.Omega.{arith}
@@ -13,14 +13,11 @@ use lib.ListN.{length}
 use Rattle.base.specs.Tabulate.{total, passing}
 use Rattle.base.proofs.Every.{is-true}
 use Rattle.base.proofs.TabulateLaws.{passing-member, member-passing}
-use Rattle.station.specs.Station.{most}
 use Rattle.machine.specs.Sum.{weigh, count, tally}
 use Rattle.machine.specs.Lists.{chosen, gather}
 use Rattle.machine.specs.Messages.{Frame, copy, ofHop}
 use Rattle.machine.proofs.Lists.Cases.{by-test, by-eqb}
-use Rattle.machine.proofs.Lists.Sums.{upto-same, weigh-append}
-use Rattle.machine.proofs.Stage.Delay.{Delay}
-use Rattle.machine.proofs.Stage.Envelope.{any}
+use Rattle.machine.proofs.Lists.Sums.{weigh-append}
 
 -- one more number at the end, if it passes
 pub passing-suc : (q : ℕ → Bool) (n : ℕ) → passing q (suc n) ≡ passing q n ++ cond (q n) (n ∷ []) []
@@ -30,6 +27,9 @@ passing-suc q n = go (q n)
     go : (b : Bool) → elim b [ true ↦ passing q n ++ (n ∷ []) | false ↦ passing q n ] ≡ passing q n ++ cond b (n ∷ []) []
     go true = refl
     go false = sym (append-nil (passing q n))
+
+abbrev pub any : {X : Type 0} → X → Bool
+any x = true
 
 module _ {X Y : Type 0} (p : X → Bool) (f : X → Y) where
   pub record Origin (l : List X) (y : Y) : Type 0 where
@@ -72,24 +72,6 @@ module _ {X Y : Type 0} (p : X → Bool) (f : X → Y) where
       go e true = omega arith
       go e false = omega arith
 
-  pub delay-chosen : {ins out : ℕ → List X} {lo hi : ℕ} → Delay ins out lo hi → Delay (λ t. chosen p f (ins t)) (λ t. chosen p f (out t)) lo hi
-  delay-chosen {ins} {out} {lo} {hi} d = record {
-    forward = λ t y m.
-        let r = was-chosen (ins t) y m in
-        let a = d .forward t (r .from) (r .there) in
-        record { at = a .at; there = subst (λ (z : Y). List·Memᴰ z (chosen p f (out (a .at)))) (r .is) (is-chosen (out (a .at)) (r .from) (a .there) (r .passes)); least = a .least; most = a .most };
-    backward = λ t y m.
-        let r = was-chosen (out t) y m in
-        let a = d .backward t (r .from) (r .there) in
-        record { at = a .at; there = subst (λ (z : Y). List·Memᴰ z (chosen p f (ins (a .at)))) (r .is) (is-chosen (ins (a .at)) (r .from) (a .there) (r .passes)); least = a .least; most = a .most };
-    weighed = λ w t. omega (
-      arith,
-      d .weighed (λ x. cond (p x) (w (f x)) 0) t,
-      upto-same (λ u. weigh w (chosen p f (out u))) (λ u. weigh (λ x. cond (p x) (w (f x)) 0) (out u)) (λ u. chosen-weigh w (out u)) t,
-      upto-same (λ u. weigh w (chosen p f (ins u))) (λ u. weigh (λ x. cond (p x) (w (f x)) 0) (ins u)) (λ u. chosen-weigh w (ins u)) t,
-    );
-  }
-
   pub chosen-append : (a b : List X) → chosen p f (a ++ b) ≡ chosen p f a ++ chosen p f b
   chosen-append [] b = refl
   chosen-append (x ∷ a) b = go (chosen-append a b) (p x)
@@ -99,16 +81,6 @@ module _ {X Y : Type 0} (p : X → Bool) (f : X → Y) where
       go e false = e
 
 module _ {X : Type 0} where
-  pub delay-same : {f g f′ g′ : ℕ → List X} {lo hi : ℕ} → ((t : ℕ) → f t ≡ f′ t) → ((t : ℕ) → g t ≡ g′ t) → Delay f g lo hi → Delay f′ g′ lo hi
-  delay-same {lo = lo} {hi = hi} h k d = subst₂ (λ (a b : ℕ → List X). Delay a b lo hi) (fun-ext h) (fun-ext k) d
-
-  pub looser : {f g : ℕ → List X} {lo hi lo′ hi′ : ℕ} → lo′ ≤ lo → hi ≤ hi′ → Delay f g lo hi → Delay f g lo′ hi′
-  looser a b d = record {
-    forward = λ t x m. let r = d .forward t x m in record { at = r .at; there = r .there; least = omega (arith, r .least); most = omega (arith, r .most) };
-    backward = λ t x m. let r = d .backward t x m in record { at = r .at; there = r .there; least = omega (arith, r .least); most = omega (arith, r .most) };
-    weighed = d .weighed;
-  }
-
   gather-append : (f : ℕ → List X) (a b : List ℕ) → gather f (a ++ b) ≡ gather f a ++ gather f b
   gather-append f [] b = refl
   gather-append f (n ∷ a) b = ap (λ (l : List X). f n ++ l) (gather-append f a b) ∙ sym (mathlib.Core.List.append-assoc (f n) (gather f a) (gather f b))
