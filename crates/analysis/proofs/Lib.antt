@@ -1,4 +1,5 @@
 pub mod PutLaws
+pub mod RouteLaws
 pub mod RowLaws
 pub mod JoinLaws
 pub mod KnownLaws

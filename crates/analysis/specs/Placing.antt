@@ -1,13 +1,15 @@
 -- The rows in the lent result: what is known before they are computed, and how far they are written. Nothing here has to be believed.
 -- Assumes nothing.
-use Prim.Native.Nat.{ℕ, _+_, _*_, _≤_, _<_}
+use Prim.Native.Nat.{ℕ, _+_, _-_, _*_, _≤_, _<_}
 use mathlib.Core.Bool.{Bool}
 use mathlib.Core.List.{List, _++_, map}
 use mathlib.Core.Path.{_≡_}
 use lib.ListN.{length, getD, take, drop, replicate}
 use Rattle.base.specs.Tabulate.{total}
-use Rattle.network.specs.Network.{Network, vlAt, hopAt, portAt}
-use Rattle.rows.specs.Links.{hopLine}
+use Rattle.frame.specs.Packets.{packets}
+use Rattle.network.specs.Network.{Network, vlAt, streamAt, hopAt, portAt}
+use Rattle.network.specs.Views.{route}
+use Rattle.rows.specs.Links.{sendMost, sendLine, hopLine}
 use Rattle.rows.specs.Queues.{queueFigure}
 use Rattle.rows.specs.Ports.{figureOf}
 use Rattle.rows.specs.Rows.{rowsTo, rowsOf}
@@ -16,17 +18,28 @@ use Rattle.answers.specs.Analysis.{joined}
 use Rattle.sheet.specs.Sheet.{networkOn, Good}
 use Rattle.sheet.specs.Walks.{leavesOn}
 use Rattle.figures.specs.Judging.{Computed}
+use Rattle.analysis.specs.declared.results.Ticks.{Ticks}
 
 -- the numbers of a row at a place of the lent result
 unfoldable pub putAt : List ℕ → ℕ → List ℕ → List ℕ
 putAt l at row = take at l ++ row ++ drop (at + length row) l
 
--- the ticks that a route adds at most, and at least
-unfoldable pub routeMost : Network → List ℕ → ℕ
-routeMost net hs = total (map (λ g. portAt net (hopAt net g .port) .greatest + figureOf net g) hs)
+-- what the route of hop h adds, and what a frame of VL v takes on its end system's link, at most and at least
+pub record RouteTicks (net : Network) (h : ℕ) (r : Ticks) : Type 0 where
+  pub most-is : r .most ≡ total (map (λ g. portAt net (hopAt net g .port) .greatest + figureOf net g) (route net h))
+  pub most-bound : r .most ≤ 8 * 125001250
+  pub least-is : r .least ≡ total (map (λ g. hopLine net g + portAt net (hopAt net g .port) .least) (route net h))
+  pub least-bound : r .least ≤ 8 * 2090
 
-unfoldable pub routeLeast : Network → List ℕ → ℕ
-routeLeast net hs = total (map (λ g. hopLine net g + portAt net (hopAt net g .port) .least) hs)
+pub record FrameTicks (net : Network) (v : ℕ) (r : Ticks) : Type 0 where
+  pub most-is : r .most ≡ sendMost net v
+  pub most-bound : r .most ≤ 15380
+  pub least-is : r .least ≡ sendLine net v
+  pub least-bound : r .least ≤ 840
+
+-- the gaps before the last packet of stream s's least message
+unfoldable pub gapsOf : Network → ℕ → ℕ
+gapsOf net s = (packets (streamAt net s .least) (vlAt net (streamAt net s .vl) .lmax) - 1) * vlAt net (streamAt net s .vl) .gap
 
 -- all that is computed before the rows
 pub record Known (sheet waits queues hops : List ℕ) : Type 0 where

@@ -7,61 +7,65 @@ use layout::sizes::MOST_VLS;
 use layout::sizes::QUEUES;
 use layout::sizes::SHEET;
 use network::Parent;
+use sheet::Delays;
 ghost use mathlib.Core.Path.{_≡_};
 ghost use Prim.Native.Nat.{_<_, _≤_, _+_, _*_};
 ghost use lib.ListN.{length};
 ghost use Rattle.table.specs.Sections.{lent};
-ghost use Rattle.network.specs.Views.{route};
-ghost use Rattle.rows.specs.Links.{sendMost};
-ghost use Rattle.rows.specs.Rows.{queueOf, worst, best, rowOf, rowsOf};
+ghost use Rattle.rows.specs.Rows.{queueOf, rowOf, rowsOf};
 ghost use Rattle.answers.specs.Analysis.{joined};
 ghost use Rattle.sheet.specs.Sheet.{networkOn, Good};
-ghost use Rattle.analysis.specs.Placing.{Known, HopsKnown, QueuesKnown, Destination, Putting, Put, Room, putAt, routeMost, routeLeast};
+ghost use Rattle.analysis.specs.Placing.{Known, HopsKnown, QueuesKnown, Destination, Putting, Put, Room, putAt, RouteTicks, FrameTicks, gapsOf};
 
 // ---- a row
 
-// What the route of hop h adds at most: the greatest switch delay and the figure of each port.
-fn route_most(net: &[u64; SHEET], hops: &[u64; MOST_HOPS], h: usize) -> u64
-    requires { ⌜ HopsKnown (now net) (now hops) h ⌝ }
-    ensures { λ r. ⌜ (r ≡ routeMost (networkOn (now (net .entry))) (route (networkOn (now (net .entry))) h)) × (r ≤ 1000010000) ⌝ }
-{
-    let mut sum = 0u64;
-    let mut left = 8usize;
-    let mut g = h;
-    while 0 < left {
-        let hop = sheet::hop_at(net, g);
-        let port = sheet::port_at(net, hop.port);
-        sum += port.greatest + hops[g];
-        let parent = hop.parent;
-        let Parent::After(above) = parent else {
-            return sum;
-        };
-        g = above;
-        left -= 1;
-    }
-    sum
+// The ticks that a frame or a route takes, at most and at least.
+pub struct Ticks {
+    pub most: u64,
+    pub least: u64,
 }
 
-// What it adds at least: a least frame on each link and the least switch delay.
-fn route_least(net: &[u64; SHEET], h: usize) -> u64
-    requires { ⌜ Good (now net) × (h < length (networkOn (now net) .hops)) ⌝ }
-    ensures { λ r. ⌜ (r ≡ routeLeast (networkOn (now (net .entry))) (route (networkOn (now (net .entry))) h)) × (r ≤ 16720) ⌝ }
+// What the route of hop h adds at most, the greatest switch delay and the figure of each port, and at least, a least frame on each link and the least switch delay.
+fn route_ticks(net: &[u64; SHEET], hops: &[u64; MOST_HOPS], h: usize) -> Ticks
+    requires { ⌜ HopsKnown (now net) (now hops) h ⌝ }
+    ensures { λ r. ⌜ RouteTicks (networkOn (now (net .entry))) h r ⌝ }
 {
-    let mut sum = 0u64;
+    let mut most = 0u64;
+    let mut least = 0u64;
     let mut left = 8usize;
     let mut g = h;
     while 0 < left {
         let hop = sheet::hop_at(net, g);
         let port = sheet::port_at(net, hop.port);
-        sum += Frame::LEAST_LINE * port.perbyte + port.least;
+        most += port.greatest + hops[g];
+        least += Frame::LEAST_LINE * port.perbyte + port.least;
         let parent = hop.parent;
         let Parent::After(above) = parent else {
-            return sum;
+            return Ticks {
+                most: most,
+                least: least,
+            };
         };
         g = above;
         left -= 1;
     }
-    sum
+    Ticks {
+        most: most,
+        least: least,
+    }
+}
+
+// What a frame of VL v takes on its end system's link.
+fn frame_ticks(net: &[u64; SHEET], v: usize) -> Ticks
+    requires { ⌜ Good (now net) × (v < length (networkOn (now net) .vls)) ⌝ }
+    ensures { λ r. ⌜ FrameTicks (networkOn (now (net .entry))) v r ⌝ }
+{
+    let vl = sheet::vl_at(net, v);
+    let system = sheet::system_at(net, vl.system);
+    Ticks {
+        most: figures::line(vl.lmax) * system.perbyte,
+        least: Frame::LEAST_LINE * system.perbyte,
+    }
 }
 
 // The queue figure of stream s's sub-link.
@@ -74,45 +78,29 @@ fn queue_of(net: &[u64; SHEET], queues: &[u64; QUEUES], s: usize) -> u64
     queues[at]
 }
 
-// The most ticks that a frame of VL v takes on its end system's link.
-fn send_most(net: &[u64; SHEET], v: usize) -> u64
-    requires { ⌜ Good (now net) × (v < length (networkOn (now net) .vls)) ⌝ }
-    ensures { λ r. ⌜ (r ≡ sendMost (networkOn (now (net .entry))) v) × (r ≤ 15380) ⌝ }
+// The gaps before the last packet of stream s's least message.
+fn gaps_of(net: &[u64; SHEET], s: usize) -> u64
+    requires { ⌜ Good (now net) × (s < length (networkOn (now net) .streams)) ⌝ }
+    ensures { λ r. ⌜ (r ≡ gapsOf (networkOn (now (net .entry))) s) × (r ≤ 769600000) ⌝ }
 {
-    let vl = sheet::vl_at(net, v);
-    let system = sheet::system_at(net, vl.system);
-    figures::line(vl.lmax) * system.perbyte
-}
-
-fn worst_of(
-    net: &[u64; SHEET],
-    waits: &[u64; MOST_VLS],
-    queues: &[u64; QUEUES],
-    hops: &[u64; MOST_HOPS],
-    s: usize,
-    h: usize,
-) -> u64
-    requires { ⌜ Known (now net) (now waits) (now queues) (now hops) × Destination (networkOn (now net)) s h ⌝ }
-    ensures { λ r. ⌜ (r ≡ worst (networkOn (now (net .entry))) s h) × (r ≤ 1200000000) ⌝ }
-{
-    let d = sheet::delays_of(net);
-    let stream = sheet::stream_at(net, s);
-    let v = stream.vl;
-    let sent = d.send_greatest + queue_of(net, queues, s) + waits[v] + send_most(net, v);
-    sent + route_most(net, hops, h) + d.receive_greatest
-}
-
-fn best_of(net: &[u64; SHEET], s: usize, h: usize) -> u64
-    requires { ⌜ Good (now net) × Destination (networkOn (now net)) s h ⌝ }
-    ensures { λ r. ⌜ r ≡ best (networkOn (now (net .entry))) s h ⌝ }
-{
-    let d = sheet::delays_of(net);
     let stream = sheet::stream_at(net, s);
     let vl = sheet::vl_at(net, stream.vl);
-    let system = sheet::system_at(net, vl.system);
-    let gaps = (figures::packets(stream.least, vl.lmax) - 1) * vl.gap;
-    let sent = d.send_least + gaps + Frame::LEAST_LINE * system.perbyte;
-    sent + route_least(net, h) + d.receive_least
+    (figures::packets(stream.least, vl.lmax) - 1) * vl.gap
+}
+
+// The parts of worst, and those of best, in 01's order.
+fn worst_of(d: Delays, queue: u64, wait: u64, frame: u64, route: u64) -> u64
+    requires { ⌜ d .«send_greatest» + queue + wait + frame + route + d .«receive_greatest» ≤ 2000000000 ⌝ }
+    ensures { λ r. ⌜ (r ≡ d .«send_greatest» + queue + wait + frame + route + d .«receive_greatest») × (r ≤ 2000000000) ⌝ }
+{
+    d.send_greatest + queue + wait + frame + route + d.receive_greatest
+}
+
+fn best_of(d: Delays, gaps: u64, frame: u64, route: u64) -> u64
+    requires { ⌜ d .«send_least» + gaps + frame + route + d .«receive_least» ≤ 2000000000 ⌝ }
+    ensures { λ r. ⌜ r ≡ d .«send_least» + gaps + frame + route + d .«receive_least» ⌝ }
+{
+    d.send_least + gaps + frame + route + d.receive_least
 }
 
 // Stream, hop, queue, worst, best, jitter.
@@ -127,10 +115,14 @@ fn row_of(
     requires { ⌜ Known (now net) (now waits) (now queues) (now hops) × Destination (networkOn (now net)) s h ⌝ }
     ensures { λ r. ⌜ r ≡ rowOf (networkOn (now (net .entry))) s h ⌝ }
 {
+    let d = sheet::delays_of(net);
     let stream = sheet::stream_at(net, s);
+    let v = stream.vl;
     let queue = queue_of(net, queues, s);
-    let worst = worst_of(net, waits, queues, hops, s, h);
-    let best = best_of(net, s, h);
+    let frame = frame_ticks(net, v);
+    let route = route_ticks(net, hops, h);
+    let worst = worst_of(d, queue, waits[v], frame.most, route.most);
+    let best = best_of(d, gaps_of(net, s), frame.least, route.least);
     let jitter = stream.jitter + figures::less(worst, best);
     [s as u64, h as u64, queue, worst, best, jitter]
 }
