@@ -5,8 +5,9 @@ pub mod Flows
 pub mod Delay
 pub mod Envelope
 pub mod Select
+pub mod Moves
+pub mod LinkLaws
 pub mod FifoLaws
 pub mod QueueSteps
 pub mod QueueLaws
-pub mod MuxSteps
 pub mod MuxLaws

@@ -1,95 +1,90 @@
--- Sums over what is in the lanes and over what is brought to them: a turn takes one head out of them.
+-- All that is in the lanes, in one list, and the lanes' names: what is brought to lanes stands beside what was in them, and a turn takes one out.
 -- Assumes nothing.
-use Prim.Native.Nat.{ℕ, zero, _+_, _≤_}
-use mathlib.Core.List.{List, [], _∷_, _++_, List·Memᴰ, List·Memᴰ·head}
-use mathlib.Core.Logic.{inl, inr}
-use mathlib.Core.Path.{_≡_, refl, ap}
-use native.Mathlib.Omega.{arith}
-use lib.ListN.{length}
-use Rattle.machine.specs.Turn.{Lane, Served, add}
-use Rattle.machine.proofs.Lists.Turns.{Named, Within, Took}
+use Prim.Native.Nat.{ℕ, zero, suc}
+use mathlib.Core.List.{List, [], _∷_, _++_, append-assoc, append-nil, map, map-append, List·Memᴰ}
+use mathlib.Core.List.{List·Permᴰ, List·Permᴰ·nil, List·Permᴰ·cons, List·Permᴰ·swap, List·Permᴰ·trans, List·Permᴰ·append-comm}
+use mathlib.Core.List.{Permᴰ·refl, Permᴰ·append-left}
+use mathlib.Core.Logic.{⊎-elim, _⊎_}
+use mathlib.Core.Option.{Option, none, some, Option·none-ne-some}
+use mathlib.Core.Path.{_≡_, refl, sym, ap, _∙_}
+use Rattle.machine.specs.Sum.{weigh}
+use Rattle.machine.specs.Lists.{gather}
+use Rattle.machine.specs.Turn.{Lane, Served, add, serve}
+use Rattle.machine.proofs.Lists.Turns.{Empty, Took, turn}
+use Rattle.machine.proofs.Lists.Orders.{perm-between, perm-mem, perm-weigh, is-gathered, weigh-gather}
+
+-- what is got, as a list
+abbrev pub listed : {X : Type 0} → Option X → List X
+listed none = []
+listed (some x) = x ∷ []
 
 module _ {X : Type 0} where
-  -- a sum over what is in the lanes; g is to be additive
-  unfoldable pub lane-sum : (List X → ℕ) → List (Lane X) → ℕ
-  lane-sum g [] = zero
-  lane-sum g (l ∷ ls) = g (l .line) + lane-sum g ls
+  abbrev pub flat : List (Lane X) → List X
+  flat [] = []
+  flat (l ∷ ls) = l .line ++ flat ls
 
-  -- the same over what is added to them
-  unfoldable pub added : (List X → ℕ) → (ℕ → List X) → List (Lane X) → ℕ
-  added g f [] = zero
-  added g f (l ∷ ls) = g (f (l .name)) + added g f ls
+  abbrev pub names : List (Lane X) → List ℕ
+  names ls = map (λ l. l .name) ls
 
-  pub sum-append : (g : List X → ℕ) (a b : List (Lane X)) → lane-sum g (a ++ b) ≡ lane-sum g a + lane-sum g b
-  unfolding lane-sum
-  sum-append g [] b = omega arith
-  sum-append g (l ∷ a) b = omega (arith, sum-append g a b)
+  flat-append : (a b : List (Lane X)) → flat (a ++ b) ≡ flat a ++ flat b
+  flat-append [] b = refl
+  flat-append (l ∷ a) b = rw (flat-append a b) (sym (append-assoc (l .line) (flat a) (flat b)))
 
-  pub added-append : (g : List X → ℕ) (f : ℕ → List X) (a b : List (Lane X)) → added g f (a ++ b) ≡ added g f a + added g f b
-  unfolding added
-  added-append g f [] b = omega arith
-  added-append g f (l ∷ a) b = omega (arith, added-append g f a b)
+  pub flat-empty : (ls : List (Lane X)) → Empty ls → flat ls ≡ []
+  flat-empty [] h = refl
+  flat-empty (l ∷ ls) h = rw (h .0) (flat-empty ls (h .1))
 
-  pub sum-add : (g : List X → ℕ) → ((l r : List X) → g (l ++ r) ≡ g l + g r) → (f : ℕ → List X) (ls : List (Lane X)) → lane-sum g (add f ls) ≡ lane-sum g ls + added g f ls
-  unfolding lane-sum added
-  sum-add g p f [] = refl
-  sum-add g p f (l ∷ ls) = omega (arith, sum-add g p f ls, p (l .line) (f (l .name)))
+  pub flat-perm : {a b : List (Lane X)} → List·Permᴰ a b → List·Permᴰ (flat a) (flat b)
+  flat-perm List·Permᴰ·nil = List·Permᴰ·nil
+  flat-perm (List·Permᴰ·cons {b = l} e h) = rw e (Permᴰ·append-left (l .line) (flat-perm h))
+  flat-perm (List·Permᴰ·swap {a′ = l} {b′ = m} {l = ls} e f) = rw (e, f) (perm-between (m .line) (l .line) (flat ls))
+  flat-perm (List·Permᴰ·trans h k) = List·Permᴰ·trans (flat-perm h) (flat-perm k)
 
-  pub added-add : (g : List X → ℕ) (f h : ℕ → List X) (ls : List (Lane X)) → added g f (add h ls) ≡ added g f ls
-  unfolding added
-  added-add g f h [] = refl
-  added-add g f h (l ∷ ls) = omega (arith, added-add g f h ls)
+  pub names-add : (f : ℕ → List X) (ls : List (Lane X)) → names (add f ls) ≡ names ls
+  names-add f [] = refl
+  names-add f (l ∷ ls) = ap (λ (ns : List ℕ). l .name ∷ ns) (names-add f ls)
 
-  pub added-took : (g : List X → ℕ) (f : ℕ → List X) (ls : List (Lane X)) (r : Served X) → Took ls r → added g f (r .lanes) ≡ added g f ls
-  unfolding added
-  added-took g f ls r k =
-      let q : Lane X = record { name = k .name; line = k .head ∷ k .rest } in
-      let q′ : Lane X = record { name = k .name; line = k .rest } in
-      omega (
-        arith,
-        ap (added g f) (k .was),
-        ap (added g f) (k .now),
-        added-append g f (k .before) (q ∷ k .after),
-        added-append g f (k .after) (k .before ++ (q′ ∷ [])),
-        added-append g f (k .before) (q′ ∷ []),
-      )
+  pub flat-add : (f : ℕ → List X) (ls : List (Lane X)) → List·Permᴰ (flat ls ++ gather f (names ls)) (flat (add f ls))
+  flat-add f [] = List·Permᴰ·nil
+  flat-add f (l ∷ ls) = rw (append-assoc (l .line) (flat ls) (gather f (names (l ∷ ls))), append-assoc (l .line) (f (l .name)) (flat (add f ls)))
+      (Permᴰ·append-left (l .line)
+      (List·Permᴰ·trans (perm-between (flat ls) (f (l .name)) (gather f (names ls))) (Permᴰ·append-left (f (l .name)) (flat-add f ls))))
 
-  pub sum-took : (g : List X → ℕ) → ((l r : List X) → g (l ++ r) ≡ g l + g r) → (ls : List (Lane X)) (r : Served X) (k : Took ls r)
-      → lane-sum g ls ≡ g (k .head ∷ []) + lane-sum g (r .lanes)
-  unfolding lane-sum
-  sum-took g p ls r k =
-      let q : Lane X = record { name = k .name; line = k .head ∷ k .rest } in
-      let q′ : Lane X = record { name = k .name; line = k .rest } in
-      omega (
-        arith,
-        ap (lane-sum g) (k .was),
-        ap (lane-sum g) (k .now),
-        sum-append g (k .before) (q ∷ k .after),
-        sum-append g (k .after) (k .before ++ (q′ ∷ [])),
-        sum-append g (k .before) (q′ ∷ []),
-        p (k .head ∷ []) (k .rest),
-      )
+  -- what a turn takes, and what it leaves, is what was there; every lane is left its name
+  pub record Turned (ls : List (Lane X)) (r : Served X) : Type 0 where
+    pub same : List·Permᴰ (flat ls) (listed (r .got) ++ flat (r .lanes))
+    pub names-same : List·Permᴰ (names ls) (names (r .lanes))
 
-pub lane-part : {X : Type 0} (g : List X → ℕ) (f : ℕ → List X) (i : ℕ) (ls : List (Lane X)) → Named i ls → g (f i) ≤ added g f ls
-unfolding added
-lane-part g f i [] h = absurd h
-lane-part g f i (l ∷ ls) (inl e) = omega (arith, ap (λ (n : ℕ). g (f n)) e)
-lane-part g f i (l ∷ ls) (inr h) = omega (arith, lane-part g f i ls h)
+  took-turned : (ls : List (Lane X)) (r : Served X) → Took ls r → Turned ls r
+  took-turned ls r k =
+      let b = names (k .before) in
+      record {
+        same = rw (k .was, k .got, k .now) (simp (flat-append, flat-empty (k .before) (k .passed), append-nil)
+            (List·Permᴰ·cons refl (List·Permᴰ·append-comm (k .rest) (flat (k .after)))));
+        names-same = rw (k .was, k .now) (simp (map-append)
+            (rw (← append-assoc b (k .name ∷ []) (names (k .after))) (List·Permᴰ·append-comm (b ++ (k .name ∷ [])) (names (k .after)))));
+      }
 
-pub nobody : {X : Type 0} (ls : List (Lane X)) → ((x : X) → Within x ls → ⊥) → lane-sum length ls ≡ zero
-unfolding lane-sum
-nobody [] h = refl
-nobody {X} (l ∷ ls) h = omega (arith, nobody ls (λ x w. h x (inr w)), empty (l .line) (λ x m. h x (inl m)))
-  where
-    empty : (k : List X) → ((x : X) → List·Memᴰ x k → ⊥) → length k ≡ zero
-    empty [] g = refl
-    empty (x ∷ k) g = absurd (g x (List·Memᴰ·head refl))
+  pub turned : (ls : List (Lane X)) → Turned ls (serve [] ls)
+  turned ls = ⊎-elim (took-turned ls (serve [] ls))
+      (λ k. record { same = rw (k .got, k .now) (Permᴰ·refl (flat ls)); names-same = rw (k .now) (Permᴰ·refl (names ls)) })
+      (turn ls)
 
-pub none-added : {X : Type 0} (f : ℕ → List X) (ls : List (Lane X)) → ((i : ℕ) (x : X) → List·Memᴰ x (f i) → ⊥) → added length f ls ≡ zero
-unfolding added
-none-added f [] h = refl
-none-added {X} f (l ∷ ls) h = omega (arith, none-added f ls h, empty (f (l .name)) (h (l .name)))
-  where
-    empty : (k : List X) → ((x : X) → List·Memᴰ x k → ⊥) → length k ≡ zero
-    empty [] g = refl
-    empty (x ∷ k) g = absurd (g x (List·Memᴰ·head refl))
+  -- it takes none only if there is none
+  pub none-waits : (ls : List (Lane X)) → serve [] ls .got ≡ none → flat (serve [] ls .lanes) ≡ []
+  none-waits ls e = ⊎-elim (λ k. absurd (Option·none-ne-some (k .head) (sym e ∙ k .got))) (λ k. rw (k .now) (flat-empty ls (k .empty))) (turn ls)
+
+  -- ---- lanes tick by tick, each with its name: what a tick brings to them, `new t i` to the lane named i
+  module _ (new : ℕ → ℕ → List X) (lanes : ℕ → List (Lane X)) (stay : (t : ℕ) → List·Permᴰ (names (lanes t)) (names (lanes (suc t)))) where
+    abbrev pub brought : ℕ → List X
+    brought t = gather (new t) (names (lanes t))
+
+    same-names : (t : ℕ) → List·Permᴰ (names (lanes zero)) (names (lanes t))
+    same-names zero = Permᴰ·refl (names (lanes zero))
+    same-names (suc t) = List·Permᴰ·trans (same-names t) (stay t)
+
+    pub brought-weigh : (w : X → ℕ) (t : ℕ) → weigh w (brought t) ≡ weigh (λ i. weigh w (new t i)) (names (lanes zero))
+    brought-weigh w t = weigh-gather w (new t) (names (lanes t)) ∙ sym (perm-weigh (λ i. weigh w (new t i)) (same-names t))
+
+    pub is-brought : (t i : ℕ) (y : X) → List·Memᴰ i (names (lanes zero)) → List·Memᴰ y (new t i) → List·Memᴰ y (brought t)
+    is-brought t i y n m = is-gathered (new t) (names (lanes t)) i y (perm-mem (same-names t) n) m

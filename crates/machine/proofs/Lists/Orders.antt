@@ -1,45 +1,57 @@
--- Lanes in another order: the same is in them, and each has its name; so what is summed over them stays, and what one of them has.
+-- Lists in another order: the same is in them, and they weigh the same. Lists that are gathered by numbers.
 -- Assumes nothing.
 use Prim.Native.Nat.{ℕ}
-use mathlib.Core.List.{List, List·Memᴰ, List·Permᴰ, List·Permᴰ·nil, List·Permᴰ·cons, List·Permᴰ·swap, List·Permᴰ·trans, Permᴰ·symm}
-use mathlib.Core.Logic.{_⊎_, inl, inr, ⊎-elim}
-use mathlib.Core.Path.{_≡_, refl, ap, _∙_, subst}
+use mathlib.Core.List.{List, [], _∷_, _++_, append-assoc, List·Memᴰ, List·Memᴰ·head, List·Memᴰ·tail, List·Memᴰ·not-nil}
+use mathlib.Core.List.{List·Memᴰ·cases-cons, List·Memᴰ·append-cases, Memᴰ·append-left, Memᴰ·append-right, Permᴰ·append-right}
+use mathlib.Core.List.{List·Permᴰ, List·Permᴰ·nil, List·Permᴰ·cons, List·Permᴰ·swap, List·Permᴰ·trans, List·Permᴰ·append-comm}
+use mathlib.Core.Logic.{⊎-elim}
+use mathlib.Core.Path.{_≡_, refl, sym, ap, _∙_, subst}
 use native.Mathlib.Omega.{arith}
-use Rattle.machine.specs.Turn.{Lane, add}
-use Rattle.machine.proofs.Lists.Turns.{Some, Within, Named, within-add-cases}
-use Rattle.machine.proofs.Lists.Lanes.{lane-sum, added}
+use Rattle.base.specs.Tabulate.{total}
+use Rattle.machine.specs.Sum.{weigh}
+use Rattle.machine.specs.Lists.{gather}
+use Rattle.machine.proofs.Lists.Sums.{weigh-append}
 
 module _ {X : Type 0} where
-  pub some-ordered : (P : Lane X → Type 0) {a b : List (Lane X)} → List·Permᴰ a b → Some P a → Some P b
-  some-ordered P List·Permᴰ·nil h = h
-  some-ordered P (List·Permᴰ·cons e k) h = ⊎-elim (λ p. inl (subst P e p)) (λ w. inr (some-ordered P k w)) h
-  some-ordered P (List·Permᴰ·swap e f) h = ⊎-elim
-      (λ p. inr (inl (subst P e p)))
-      (λ h. ⊎-elim (λ p. inl (subst P f p)) (λ w. inr (inr w)) h)
-      h
-  some-ordered P (List·Permᴰ·trans k l) h = some-ordered P l (some-ordered P k h)
+  pub perm-weigh : (w : X → ℕ) {l r : List X} → List·Permᴰ l r → weigh w l ≡ weigh w r
+  unfolding total
+  perm-weigh w List·Permᴰ·nil = refl
+  perm-weigh w (List·Permᴰ·cons e h) = omega (arith, ap w e, perm-weigh w h)
+  perm-weigh w (List·Permᴰ·swap e f) = omega (arith, ap w e, ap w f)
+  perm-weigh w (List·Permᴰ·trans h k) = perm-weigh w h ∙ perm-weigh w k
 
-  pub within-ordered : (x : X) {a b : List (Lane X)} → List·Permᴰ a b → Within x a → Within x b
-  within-ordered x k w = some-ordered (λ l. List·Memᴰ x (l .line)) k w
+  pub perm-mem : {x : X} {l r : List X} → List·Permᴰ l r → List·Memᴰ x l → List·Memᴰ x r
+  perm-mem List·Permᴰ·nil m = m
+  perm-mem {x} (List·Permᴰ·cons e h) m = ⊎-elim (λ i. List·Memᴰ·head (i ∙ e)) (λ i. List·Memᴰ·tail (perm-mem h i)) (List·Memᴰ·cases-cons m)
+  perm-mem {x} (List·Permᴰ·swap e f) m = ⊎-elim
+      (λ i. List·Memᴰ·tail (List·Memᴰ·head (i ∙ e)))
+      (λ i. ⊎-elim (λ j. List·Memᴰ·head (j ∙ f)) (λ j. List·Memᴰ·tail (List·Memᴰ·tail j)) (List·Memᴰ·cases-cons i))
+      (List·Memᴰ·cases-cons m)
+  perm-mem (List·Permᴰ·trans h k) m = perm-mem k (perm-mem h m)
 
-  pub named-ordered : (i : ℕ) {a b : List (Lane X)} → List·Permᴰ a b → Named i a → Named i b
-  named-ordered i k w = some-ordered (λ l. l .name ≡ i) k w
+  pub perm-between : (a b c : List X) → List·Permᴰ (a ++ (b ++ c)) (b ++ (a ++ c))
+  perm-between a b c = rw (← append-assoc a b c, ← append-assoc b a c) (Permᴰ·append-right c (List·Permᴰ·append-comm a b))
 
-  -- what is in lanes to which f was brought, in any order, was in them or is new
-  pub within-ordered-cases : (x : X) (f : ℕ → List X) (ls : List (Lane X)) {order : List (Lane X)} → List·Permᴰ (add f ls) order → Within x order
-      → Within x ls ⊎ ((i : ℕ) × List·Memᴰ x (f i))
-  within-ordered-cases x f ls k w = within-add-cases x f ls (within-ordered x (Permᴰ·symm k) w)
+  pub none-in : (l : List X) → ((x : X) → List·Memᴰ x l → ⊥) → l ≡ []
+  none-in [] h = refl
+  none-in (x ∷ l) h = absurd (h x (List·Memᴰ·head refl))
 
-  pub sum-ordered : (g : List X → ℕ) {a b : List (Lane X)} → List·Permᴰ a b → lane-sum g a ≡ lane-sum g b
-  unfolding lane-sum
-  sum-ordered g List·Permᴰ·nil = refl
-  sum-ordered g (List·Permᴰ·cons e k) = omega (arith, ap (λ (l : Lane X). g (l .line)) e, sum-ordered g k)
-  sum-ordered g (List·Permᴰ·swap e f) = omega (arith, ap (λ (l : Lane X). g (l .line)) e, ap (λ (l : Lane X). g (l .line)) f)
-  sum-ordered g (List·Permᴰ·trans k l) = sum-ordered g k ∙ sum-ordered g l
+  pub is-gathered : (f : ℕ → List X) (ns : List ℕ) (i : ℕ) (x : X) → List·Memᴰ i ns → List·Memᴰ x (f i) → List·Memᴰ x (gather f ns)
+  is-gathered f (n ∷ ns) i x (List·Memᴰ·head e) k = Memᴰ·append-left (gather f ns) (subst (λ (m : ℕ). List·Memᴰ x (f m)) e k)
+  is-gathered f (n ∷ ns) i x (List·Memᴰ·tail m) k = Memᴰ·append-right (f n) (is-gathered f ns i x m k)
 
-  pub added-ordered : (g : List X → ℕ) (f : ℕ → List X) {a b : List (Lane X)} → List·Permᴰ a b → added g f a ≡ added g f b
-  unfolding added
-  added-ordered g f List·Permᴰ·nil = refl
-  added-ordered g f (List·Permᴰ·cons e k) = omega (arith, ap (λ (l : Lane X). g (f (l .name))) e, added-ordered g f k)
-  added-ordered g f (List·Permᴰ·swap d e) = omega (arith, ap (λ (l : Lane X). g (f (l .name))) d, ap (λ (l : Lane X). g (f (l .name))) e)
-  added-ordered g f (List·Permᴰ·trans k l) = added-ordered g f k ∙ added-ordered g f l
+  pub was-gathered : (f : ℕ → List X) (ns : List ℕ) (x : X) → List·Memᴰ x (gather f ns) → (i : ℕ) × List·Memᴰ i ns × List·Memᴰ x (f i)
+  was-gathered f [] x m = absurd (List·Memᴰ·not-nil m)
+  was-gathered f (n ∷ ns) x m = ⊎-elim
+      (λ k. (n, List·Memᴰ·head refl, k))
+      (λ k. let w = was-gathered f ns x k in (w .0, List·Memᴰ·tail (w .1), w .2))
+      (List·Memᴰ·append-cases (f n) m)
+
+  pub gather-append : (f : ℕ → List X) (a b : List ℕ) → gather f (a ++ b) ≡ gather f a ++ gather f b
+  gather-append f [] b = refl
+  gather-append f (n ∷ a) b = rw (gather-append f a b) (sym (append-assoc (f n) (gather f a) (gather f b)))
+
+  pub weigh-gather : (w : X → ℕ) (f : ℕ → List X) (ns : List ℕ) → weigh w (gather f ns) ≡ weigh (λ s. weigh w (f s)) ns
+  unfolding total
+  weigh-gather w f [] = refl
+  weigh-gather w f (s ∷ ns) = omega (arith, weigh-append w (f s) (gather f ns), weigh-gather w f ns)

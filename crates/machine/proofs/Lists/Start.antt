@@ -2,17 +2,17 @@
 -- Assumes nothing.
 use Prim.Native.Nat.{ℕ, zero, suc}
 use mathlib.Core.Bool.{true}
-use mathlib.Core.List.{List, [], _∷_, List·Memᴰ, List·Memᴰ·head, List·Memᴰ·tail, List·Memᴰ·append-cases, Memᴰ·append-left, Memᴰ·append-right}
-use mathlib.Core.Logic.{inl, inr, ⊎-elim}
+use mathlib.Core.List.{List, [], _∷_, List·Memᴰ, List·Memᴰ·append-cases, Memᴰ·append-left, Memᴰ·append-right}
+use mathlib.Core.Logic.{⊎-elim}
 use mathlib.Core.Path.{_≡_, refl, sym, ap, subst}
 use native.Mathlib.Omega.{arith}
 use lib.ListN.{length, take, drop, length-append, take-append-drop}
-use Rattle.base.specs.Tabulate.{passing, total}
+use Rattle.base.specs.Tabulate.{passing}
 use Rattle.machine.specs.Sum.{weigh}
 use Rattle.machine.specs.Turn.{lanesOf, fromTurn}
 use Rattle.machine.proofs.Lists.Sums.{weigh-append}
-use Rattle.machine.proofs.Lists.Turns.{Empty, Named}
-use Rattle.machine.proofs.Lists.Lanes.{added}
+use Rattle.machine.proofs.Lists.Turns.{Empty}
+use Rattle.machine.proofs.Lists.Lanes.{names}
 
 module _ (X : Type 0) where
   pub lanes-empty : (ns : List ℕ) → Empty (lanesOf {X = X} ns)
@@ -23,14 +23,9 @@ module _ (X : Type 0) where
   lanes-length [] = refl
   lanes-length (n ∷ ns) = ap suc (lanes-length ns)
 
-  pub lanes-named : (i : ℕ) (ns : List ℕ) → List·Memᴰ i ns → Named i (lanesOf {X = X} ns)
-  lanes-named i (n ∷ ns) (List·Memᴰ·head e) = inl (sym e)
-  lanes-named i (n ∷ ns) (List·Memᴰ·tail m) = inr (lanes-named i ns m)
-
-  pub lanes-added : (g : List X → ℕ) (f : ℕ → List X) (ns : List ℕ) → added g f (lanesOf ns) ≡ weigh (λ i. g (f i)) ns
-  unfolding added total
-  lanes-added g f [] = refl
-  lanes-added g f (n ∷ ns) = omega (arith, lanes-added g f ns)
+  pub lanes-names : (ns : List ℕ) → names (lanesOf {X = X} ns) ≡ ns
+  lanes-names [] = refl
+  lanes-names (n ∷ ns) = ap (λ (l : List ℕ). n ∷ l) (lanes-names ns)
 
 pub turn-length : (k : ℕ) (ns : List ℕ) → length (fromTurn k ns) ≡ length ns
 turn-length k ns = omega (arith, length-append (drop k ns) (take k ns), length-append (take k ns) (drop k ns), ap (length {A = ℕ}) (take-append-drop k ns))

@@ -21,10 +21,11 @@ use Rattle.machine.specs.Messages.{Message, Packet, vlOf, packetsIn, toL
 use Rattle.machine.specs.Machine.{Run, allSending, released}
 use Rattle.machine.specs.Permitted.{streamFlow, releasedBy, Permitted}
 use Rattle.machine.specs.Sound.{Sound}
+use Rattle.machine.proofs.Lists.Orders.{perm-mem}
 use Rattle.machine.proofs.Lists.Cases.{by-test}
 use Rattle.machine.proofs.Stage.Parts.{lands}
 use Rattle.machine.proofs.Lists.Sums.{span-same}
-use Rattle.machine.proofs.Stage.Delay.{Delay, _then_, reordered, on-the-way, landed-from, perm-mem, delay-chosen, delay-same, looser}
+use Rattle.machine.proofs.Stage.Delay.{Delay, _then_, reordered, on-the-way, landed-from, delay-chosen, delay-same, looser}
 use Rattle.machine.proofs.Stage.Envelope.{envelope}
 use Rattle.machine.proofs.Stage.Select.{chosen-any, was-chosen, any}
 use Rattle.machine.proofs.Network.Told.{arrival, Good, good, weigh-messages}

@@ -1,10 +1,11 @@
 -- From the hand-over of a frame to its end on the end system's link: one frame of each VL takes no longer than a gap, so no VL brings a second one while the link is busy, and each frame is sent within 7's sum.
 -- Assumes nothing.
-use Prim.Native.Nat.{ℕ, suc, _+_, _*_, _≤_, _<_, max}
+use Prim.Native.Nat.{ℕ, zero, suc, _+_, _*_, _≤_, _<_, max}
 use mathlib.Core.Bool.{cond, Bool}
-use mathlib.Core.List.{List, [], _∷_, List·Memᴰ, List·Memᴰ·head, List·Memᴰ·tail, List·Permᴰ}
+use mathlib.Core.List.{List, [], _∷_, _++_, List·Memᴰ, List·Memᴰ·head, List·Memᴰ·tail, List·Permᴰ}
+use mathlib.Core.Option.{Option, none}
 use mathlib.Core.Path.{_≡_, refl, sym, ap, _∙_, subst, subst₂}
-use native.Mathlib.Nat.{le-refl, le-of-eq, le-trans, mul-le-mul-right, div-eq-of-lt}
+use native.Mathlib.Nat.{le-refl, le-trans, mul-le-mul-right, div-eq-of-lt}
 use native.Mathlib.Omega.{arith}
 use lib.Dec.{eqb, eqb→eq}
 use lib.ListN.{length}
@@ -18,19 +19,25 @@ use Rattle.network.specs.Views.{vlsOf}
 use Rattle.machine.specs.Sum.{span, count, weigh}
 use Rattle.machine.specs.Turn.{Lane, add, fromTurn}
 use Rattle.machine.specs.Mux.{Mux}
-use Rattle.machine.specs.Messages.{Frame, endCost, ofVl}
+use Rattle.machine.specs.Fifo.{Sent, ended, still}
+use Rattle.machine.specs.Messages.{Frame, endCost}
 use Rattle.machine.specs.Machine.{Run, start}
 use Rattle.machine.specs.Permitted.{Permitted}
 use Rattle.machine.specs.Sound.{Sound}
 use Rattle.machine.proofs.Lists.Cases.{eq→eqb, by-test}
 use Rattle.machine.proofs.Stage.Parts.{mux, mux-out}
-use Rattle.machine.proofs.Lists.Sums.{span-mono, span-same, span-mul, span-sum, upto, upto-same, upto-mono}
-use Rattle.machine.proofs.Lists.Turns.{Empty, Named}
-use Rattle.machine.proofs.Lists.Lanes.{added}
-use Rattle.machine.proofs.Stage.MuxLaws.{brings, backward, forward, weighed, out-origin}
+use Rattle.machine.proofs.Lists.Sums.{span-mono, span-mul, span-sum, weigh-none, upto-mono}
+use Rattle.machine.proofs.Lists.Turns.{Empty}
+use Rattle.machine.proofs.Lists.Orders.{was-gathered}
+use Rattle.machine.proofs.Lists.Lanes.{names, brought, brought-weigh, is-brought}
+use Rattle.machine.proofs.Stage.Moves.{out-origin}
+use Rattle.machine.proofs.Stage.Moves as Moves
+use Rattle.machine.proofs.Stage.LinkLaws.{Starts}
+use Rattle.machine.proofs.Stage.LinkLaws as Link
+use Rattle.machine.proofs.Stage.MuxLaws
 use Rattle.machine.proofs.Stage.Delay.{Delay, delay-same}
 use Rattle.machine.proofs.Stage.Select.{was-chosen, is-chosen, chosen-weigh, is-passing, was-passing, weigh-one, any}
-use Rattle.machine.proofs.Lists.Start.{lanes-empty, lanes-named, lanes-added, turn-mem, turn-weigh}
+use Rattle.machine.proofs.Lists.Start.{lanes-empty, lanes-names, turn-mem, turn-weigh}
 use Rattle.machine.proofs.Network.Trace.{hand, looks, end-is, sent, sent-is}
 use Rattle.machine.proofs.Network.Windows.{Windows}
 use Rattle.machine.proofs.Network.Queues.{Fact, hand-fact, hand-vl, hand-rate}
@@ -44,11 +51,6 @@ part-weigh : {X : Type 0} (p : X → Bool) (w : X → ℕ) (l : List X) → weig
 unfolding total
 part-weigh p w [] = le-refl 0
 part-weigh p w (x ∷ l) = let one : cond (p x) (w x) 0 ≤ w x = by-test (p x) (λ (n : ℕ). n ≤ w x) (λ h. le-refl (w x)) (λ h. omega arith) in omega (arith, part-weigh p w l)
-
-weigh-none : {X : Type 0} (w : X → ℕ) (l : List X) → ((x : X) → List·Memᴰ x l → w x ≡ 0) → weigh w l ≡ 0
-unfolding total
-weigh-none w [] h = refl
-weigh-none w (x ∷ l) h = omega (arith, h x (List·Memᴰ·head refl), weigh-none w l (λ y m. h y (List·Memᴰ·tail m)))
 
 module _ (net : Network) (sound : Sound net) (r : Run) (per : Permitted net r) (win : Windows net) (v : ℕ) (hv : v < length (net .vls)) where
   abbrev e : ℕ
@@ -66,9 +68,10 @@ module _ (net : Network) (sound : Sound net) (r : Run) (per : Permitted net r) (
   empty₀ : Empty (s₀ .lanes)
   empty₀ = lanes-empty Frame turns
 
-  named₀ : Named v (s₀ .lanes)
+  named₀ : List·Memᴰ v (names (s₀ .lanes))
   unfolding vlsOf
-  named₀ = lanes-named Frame v turns (turn-mem (r .firstVl e) v ns (is-passing (λ w. eqb (vlAt net w .system) e) (length (net .vls)) v hv (lib.Dec.eqb-refl e)))
+  named₀ = rw (lanes-names Frame turns)
+      (turn-mem (r .firstVl e) v ns (is-passing (λ w. eqb (vlAt net w .system) e) (length (net .vls)) v hv (lib.Dec.eqb-refl e)))
 
   abbrev new : ℕ → ℕ → List Frame
   new t i = hand net r i t
@@ -86,6 +89,47 @@ module _ (net : Network) (sound : Sound net) (r : Run) (per : Permitted net r) (
   ordered : (t : ℕ) → List·Permᴰ (add (new t) (mux (endCost net e) s₀ new looked t .lanes)) (looked t)
   ordered t = subst (λ (s : Mux Frame). List·Permᴰ (add (new t) (s .lanes)) (looked t)) (end-is net r e t) (per (suc t) .turns t e (le-refl (suc t)))
 
+  -- the end system's link, and what comes to it
+  abbrev cost : Frame → ℕ
+  cost = endCost net e
+
+  abbrev born : Frame → ℕ
+  born f = f .born
+
+  abbrev lanes : ℕ → List (Lane Frame)
+  lanes = MuxLaws.lanes cost s₀ empty₀ new looked ordered
+
+  abbrev ins : ℕ → List Frame
+  ins = brought new lanes (MuxLaws.stay cost s₀ empty₀ new looked ordered)
+
+  abbrev line : ℕ → List Frame
+  line = MuxLaws.line cost s₀ empty₀ new looked ordered
+
+  abbrev link : ℕ → Option (Sent Frame)
+  link = MuxLaws.link cost s₀ empty₀ new looked ordered
+
+  line₀ : line zero ≡ []
+  line₀ = MuxLaws.line₀ cost s₀ empty₀ new looked ordered
+
+  link₀ : link zero ≡ none
+  unfolding mux
+  link₀ = refl
+
+  step : (t : ℕ) → Starts cost t (line t ++ ins t) (still t (link t)) (line (suc t)) (link (suc t))
+  step = MuxLaws.step cost s₀ empty₀ new looked ordered
+
+  came : (t : ℕ) (f : Frame) → List·Memᴰ f (ins t) → (i : ℕ) × List·Memᴰ f (new t i)
+  came t f m = let w = was-gathered (new t) (names (lanes t)) f m in (w .0, w .2)
+
+  pos : (t : ℕ) (f : Frame) → List·Memᴰ f (ins t) → 0 < cost f
+  pos t f m = let w = came t f m in stamped t (w .0) f (w .1) .1
+
+  -- what tick t brings weighs what its VLs hand over
+  ins-weigh : (w : Frame → ℕ) (t : ℕ) → weigh w (ins t) ≡ weigh (λ i. weigh w (new t i)) ns
+  unfolding mux
+  ins-weigh w t = brought-weigh new lanes (MuxLaws.stay cost s₀ empty₀ new looked ordered) w t
+      ∙ rw (lanes-names Frame turns) (turn-weigh (λ i. weigh w (new t i)) (r .firstVl e) ns)
+
   abbrev c : ℕ → ℕ
   c i = sendMost net i
 
@@ -93,76 +137,79 @@ module _ (net : Network) (sound : Sound net) (r : Run) (per : Permitted net r) (
   abbrev window : ℕ
   window = max 1 (sendSum net e)
 
-  most-cost : (i : ℕ) → vlAt net i .system ≡ e → (f : Frame) → f .packet .bytes ≤ largestLine (vlAt net i .lmax) → endCost net e f ≤ sendMost net i
+  most-cost : (i : ℕ) → vlAt net i .system ≡ e → (f : Frame) → f .packet .bytes ≤ largestLine (vlAt net i .lmax) → cost f ≤ sendMost net i
   unfolding sendMost
   most-cost i q f h = rw q (ticks-most (systemLink net e) (f .packet .bytes) (vlAt net i .lmax) h)
 
   -- one VL brings at most one frame in a span below its gap
-  one-each : (i : ℕ) → i < length (net .vls) → vlAt net i .system ≡ e → (x d : ℕ) → d < window → span (λ t. weigh (endCost net e) (new t i)) x d ≤ c i
+  one-each : (i : ℕ) → i < length (net .vls) → vlAt net i .system ≡ e → (x d : ℕ) → d < window → span (λ t. weigh cost (new t i)) x d ≤ c i
   one-each i h q x d k =
-      let w = span-mono (λ t. weigh (endCost net e) (new t i)) (λ t. count any (new t i) * c i)
-      (λ t. weigh-count (endCost net e) (c i) (new t i) (λ f m. most-cost i q f (fact t i f m .1 .bytes-most))) x d in
+      let w = span-mono (λ t. weigh cost (new t i)) (λ t. count any (new t i) * c i)
+      (λ t. weigh-count cost (c i) (new t i) (λ f m. most-cost i q f (fact t i f m .1 .bytes-most))) x d in
       let n = hand-rate net sound r per i win h x d in
       let z = div-eq-of-lt {n = d} {m = vlAt net i .gap} (omega (arith, sound .gap i h, sound .sends-in-a-gap i h, ap (sendSum net) q)) in
       let l : span (λ t. count any (new t i)) x d ≤ 1 = omega arith in
-      le-trans w (le-trans (le-of-eq (span-mul (λ t. count any (new t i)) (c i) x d)) (le-trans (mul-le-mul-right (c i) l) (omega arith)))
+      omega (arith, span-mul (λ t. count any (new t i)) (c i) x d, mul-le-mul-right (c i) l)
 
-  brings-is : (t : ℕ) → brings (endCost net e) (λ f. f .born) s₀ empty₀ refl new stamped looked ordered t ≡ weigh (λ i. weigh (endCost net e) (new t i)) ns
-  unfolding brings
-  brings-is t = lanes-added Frame (weigh (endCost net e)) (new t) turns ∙ turn-weigh (λ i. weigh (endCost net e) (new t i)) (r .firstVl e) ns
-
-  bound : (x d : ℕ) → d < window → span (brings (endCost net e) (λ f. f .born) s₀ empty₀ refl new stamped looked ordered) x d ≤ sendSum net e
+  bound : (x d : ℕ) → d < window → span (λ t. weigh cost (ins t)) x d ≤ sendSum net e
   unfolding sendSum vlsOf
-  bound x d h = le-trans (le-of-eq (span-same (brings (endCost net e) (λ f. f .born) s₀ empty₀ refl new stamped looked ordered) (λ t. weigh (λ i. weigh (endCost net e) (new t i)) ns) brings-is x d))
-      (span-sum (λ t i. weigh (endCost net e) (new t i)) c x d ns (λ i m. let w = was-passing (λ w. eqb (vlAt net w .system) e) (length (net .vls)) i m in one-each i (w .0) (eqb→eq (vlAt net i .system) e (w .1)) x d h))
-
-  back : (t : ℕ) (f : Frame) → List·Memᴰ f (mux-out (endCost net e) s₀ new looked t) → (f .born + endCost net e f ≤ t) × (t ≤ f .born + sendSum net e)
-  back = backward (endCost net e) (λ f. f .born) s₀ empty₀ refl new stamped looked ordered window (sendSum net e) (omega arith) (omega arith) bound
-
-  came : (t : ℕ) (f : Frame) → List·Memᴰ f (mux-out (endCost net e) s₀ new looked t) → List·Memᴰ f (new (f .born) (f .vl)) × (leastLine ≤ f .packet .bytes)
-  came = out-origin (endCost net e) (λ f. f .born) s₀ empty₀ refl new stamped looked ordered (λ f. List·Memᴰ f (new (f .born) (f .vl)) × (leastLine ≤ f .packet .bytes))
-      (λ t i f m. let w = fact t i f m in (subst₂ (λ (u j : ℕ). List·Memᴰ f (new u j)) (sym (w .0)) (sym (w .1 .vl)) m, w .1 .bytes-least))
+  bound x d h = simp (ins-weigh cost) (span-sum (λ t i. weigh cost (new t i)) c x d ns
+      (λ i m. let w = was-passing (λ w. eqb (vlAt net w .system) e) (length (net .vls)) i m in one-each i (w .0) (eqb→eq (vlAt net i .system) e (w .1)) x d h))
 
   abbrev mine : Frame → Bool
   mine f = eqb (f .vl) v
 
-  least-cost : (f : Frame) → leastLine ≤ f .packet .bytes → sendLine net v ≤ endCost net e f
+  -- what is sent whole was handed over by the VL that it names
+  known : (t : ℕ) (f : Frame) → List·Memᴰ f (ended t (link t)) → List·Memᴰ f (new (f .born) (f .vl)) × (leastLine ≤ f .packet .bytes)
+  known = out-origin (Link.there cost line link ins line₀ link₀ step pos) ins (λ t. ended t (link t))
+      (Link.none-first cost line link ins line₀ link₀ step pos) (Link.moves cost line link ins line₀ link₀ step pos)
+      (λ t f. List·Memᴰ f (new (f .born) (f .vl)) × (leastLine ≤ f .packet .bytes))
+      (λ t f m. let i = came t f m in let w = fact t (i .0) f (i .1) in
+      (subst₂ (λ (u j : ℕ). List·Memᴰ f (new u j)) (sym (w .0)) (sym (w .1 .vl)) (i .1), w .1 .bytes-least))
+      (λ t f h. h)
+
+  least-cost : (f : Frame) → leastLine ≤ f .packet .bytes → sendLine net v ≤ cost f
   unfolding sendLine
   least-cost f h = ticks-least (systemLink net e) (f .packet .bytes) h
 
-  weights : (w : Frame → ℕ) (t : ℕ) → upto (λ u. weigh w (ofVl v (mux-out (endCost net e) s₀ new looked u))) t ≤ upto (λ u. weigh w (new u v)) t
+  -- of what VL v hands over no more is sent
+  mine-only : (w : Frame → ℕ) (t : ℕ) → weigh (λ f. cond (mine f) (w f) 0) (ins t) ≤ weigh w (new t v)
   unfolding vlsOf
-  weights w t =
+  mine-only w t =
       let q : Frame → ℕ = λ f. cond (mine f) (w f) 0 in
-      let a = upto-same (λ u. weigh w (ofVl v (mux-out (endCost net e) s₀ new looked u))) (λ u. weigh q (mux-out (endCost net e) s₀ new looked u)) (λ u. chosen-weigh mine (λ f. f) w (mux-out (endCost net e) s₀ new looked u)) t in
-      let b = weighed (endCost net e) (λ f. f .born) s₀ empty₀ refl new stamped looked ordered q t in
-      let d = upto-mono (λ u. added (weigh q) (new u) (s₀ .lanes)) (λ u. weigh w (new u v))
-      (λ u. le-trans (le-of-eq (lanes-added Frame (weigh q) (new u) turns ∙ turn-weigh (λ i. weigh q (new u i)) (r .firstVl e) ns))
-      (le-trans (weigh-one (λ i. weigh q (new u i)) v
-      (λ i n. weigh-none q (new u i) (λ f m. by-test (mine f) (λ (z : ℕ). z ≡ 0) (λ k. absurd (n (sym (fact u i f m .1 .vl) ∙ eqb→eq (f .vl) v k))) (λ k. refl)))
-      (λ w. eqb (vlAt net w .system) e) (length (net .vls)))
-      (part-weigh mine w (new u v)))) t in
-      omega arith
+      let one = weigh-one (λ i. weigh q (new t i)) v
+      (λ i n. weigh-none q (new t i) (λ f m. by-test (mine f) (λ (z : ℕ). z ≡ 0)
+      (λ k. absurd (n (sym (fact t i f m .1 .vl) ∙ eqb→eq (f .vl) v k))) (λ k. refl)))
+      (λ w. eqb (vlAt net w .system) e) (length (net .vls)) in
+      omega (arith, ins-weigh q t, part-weigh mine w (new t v))
 
   -- a frame is sent whole from its own least time to one frame of each VL later
   pub end-delay : Delay (hand net r v) (sent net r v) (sendLine net v) (sendSum net e)
-  end-delay = delay-same (λ t. refl) (λ t. sent-is net r v t) (record {
-    forward = λ t f k.
-        let o = forward (endCost net e) (λ g. g .born) s₀ empty₀ refl new stamped looked ordered window (sendSum net e) (omega arith) (omega arith) bound v named₀ t f k in
-        let b = back (o .at) f (o .is) in
-        let w = fact t v f k in
-        record {
-          at = o .at;
-          there = is-chosen mine (λ g. g) (mux-out (endCost net e) s₀ new looked (o .at)) f (o .is) (eq→eqb (f .vl) v (w .1 .vl));
-          least = omega (arith, b .0, w .0, least-cost f (w .1 .bytes-least));
-          most = omega (arith, b .1, w .0);
-        };
-    backward = λ t f k.
-        let o = was-chosen mine (λ g. g) (mux-out (endCost net e) s₀ new looked t) f k in
-        let there′ : List·Memᴰ f (mux-out (endCost net e) s₀ new looked t) = subst (λ (g : Frame). List·Memᴰ g (mux-out (endCost net e) s₀ new looked t)) (o .is) (o .there) in
-        let vl′ : f .vl ≡ v = ap (λ (g : Frame). g .vl) (sym (o .is)) ∙ eqb→eq (o .from .vl) v (o .passes) in
-        let w = came t f there′ in
-        let b = back t f there′ in
-        record { at = f .born; there = subst (λ (i : ℕ). List·Memᴰ f (new (f .born) i)) vl′ (w .0); least = omega (arith, b .0, least-cost f (w .1)); most = b .1 };
-    weighed = weights;
-  })
+  unfolding mux-out mux
+  end-delay =
+      let back = Link.backward cost line link ins line₀ link₀ step pos born (λ t f m. let i = came t f m in stamped t (i .0) f (i .1) .0)
+      window (sendSum net e) (omega arith) (omega arith) bound in
+      delay-same (λ t. refl) (λ t. sent-is net r v t) (record {
+        forward = λ t f k.
+            let o = Link.forward cost line link ins line₀ link₀ step pos born (λ t f m. let i = came t f m in stamped t (i .0) f (i .1) .0)
+            window (sendSum net e) (omega arith) (omega arith) bound t f (is-brought new lanes (MuxLaws.stay cost s₀ empty₀ new looked ordered) t v f named₀ k) in
+            let b = back (o .0) f (o .1) in
+            let w = fact t v f k in
+            record {
+              at = o .0;
+              there = is-chosen mine (λ g. g) (ended (o .0) (link (o .0))) f (o .1) (eq→eqb (f .vl) v (w .1 .vl));
+              least = omega (arith, b .0, w .0, least-cost f (w .1 .bytes-least));
+              most = omega (arith, b .1, w .0);
+            };
+        backward = λ t f k.
+            let o = was-chosen mine (λ g. g) (ended t (link t)) f k in
+            let there′ : List·Memᴰ f (ended t (link t)) = rw (o .is) at (o .there) in
+            let vl′ : f .vl ≡ v = rw (← o .is) (eqb→eq (o .from .vl) v (o .passes)) in
+            let w = known t f there′ in
+            let b = back t f there′ in
+            record { at = f .born; there = subst (λ (i : ℕ). List·Memᴰ f (new (f .born) i)) vl′ (w .0); least = omega (arith, b .0, least-cost f (w .1)); most = b .1 };
+        weighed = λ w t. simp (chosen-weigh mine (λ f. f) w) (le-trans
+            (Moves.weighed (Link.there cost line link ins line₀ link₀ step pos) ins (λ t. ended t (link t))
+            (Link.none-first cost line link ins line₀ link₀ step pos) (Link.moves cost line link ins line₀ link₀ step pos) (λ f. cond (mine f) (w f) 0) t)
+            (upto-mono (λ u. weigh (λ f. cond (mine f) (w f) 0) (ins u)) (λ u. weigh w (new u v)) (mine-only w) t));
+      })

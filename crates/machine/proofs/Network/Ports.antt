@@ -2,7 +2,7 @@
 -- Assumes nothing.
 use Prim.Native.Nat.{ℕ, zero, suc, _+_, _-_, _/_, _≤_, _<_}
 use mathlib.Core.Bool.{Bool, true, cond}
-use mathlib.Core.List.{List, _++_, [], List·Memᴰ, Permᴰ·symm}
+use mathlib.Core.List.{List, [], List·Memᴰ, Permᴰ·symm}
 use mathlib.Core.Option.{Option, none, some}
 use mathlib.Core.Path.{_≡_, refl, sym, ap, _∙_, subst}
 use native.Mathlib.Nat.{le-refl, le-of-eq, le-trans, add-zero}
@@ -21,36 +21,23 @@ use Rattle.rows.proofs.PortLaws.{figure-of-port}
 use Rattle.station.specs.Station.{most, brought}
 use Rattle.machine.specs.Sum.{span, count, weigh}
 use Rattle.machine.specs.Lists.{chosen}
-use Rattle.machine.specs.Fifo.{Fifo, still}
 use Rattle.machine.specs.Messages.{Copy, copy, portCost}
 use Rattle.machine.specs.Machine.{Run, setsFrom, portArrived}
 use Rattle.machine.specs.Permitted.{Permitted}
 use Rattle.machine.specs.Sound.{Sound}
 use Rattle.machine.proofs.Stage.Parts.{fifo-out}
 use Rattle.machine.proofs.Lists.Sums.{span-same}
-use Rattle.machine.proofs.Stage.FifoLaws as FifoLaws
+use Rattle.machine.proofs.Stage.LinkLaws.{free}
+use Rattle.machine.proofs.Stage.FifoLaws.{fifo-delay, work-within}
 use Rattle.machine.proofs.Stage.Flows.{Covered, works-bound}
-use Rattle.machine.proofs.Stage.Delay.{Delay, _then_, reordered, on-the-way, perm-mem, delay-chosen, delay-same, looser}
+use Rattle.machine.proofs.Stage.Delay.{Delay, _then_, reordered, on-the-way, delay-chosen, delay-same, looser}
 use Rattle.machine.proofs.Stage.Envelope.{envelope}
-use Rattle.machine.proofs.Stage.Select.{was-chosen, is-chosen, chosen-any, hops-at, was-gathered, any}
+use Rattle.machine.proofs.Stage.Select.{was-chosen, is-chosen, chosen-any, hops-at, any}
+use Rattle.machine.proofs.Lists.Orders.{perm-mem, was-gathered}
 use Rattle.machine.proofs.Network.Trace.{ch, st, port-is, hand, source, lands-at, lands-is, into, left, left-is, done, done-is}
 use Rattle.machine.proofs.Network.Windows.{Windows, soon-by, late-by}
 use Rattle.machine.proofs.Network.Queues.{hand-fact, hand-rate}
 use Rattle.machine.proofs.Network.Ends.{end-delay}
-
--- a port as a stage
-fifo-delay : {Job : Type 0} (cost : Job → ℕ) (ins : ℕ → List Job) (lo : ℕ) → ((t : ℕ) (j : Job) → List·Memᴰ j (ins t) → (0 < cost j) × (lo ≤ cost j))
-    → (env : ℕ → ℕ) (f : ℕ) → ((x d : ℕ) → span (λ t. weigh cost (ins t)) x d ≤ env d) → ((d : ℕ) → env d ≤ f + d)
-    → Delay ins (fifo-out cost ins) lo f
-fifo-delay {Job} cost ins lo h env f bound covers =
-    let pos : (t : ℕ) (j : Job) → List·Memᴰ j (ins t) → 0 < cost j = λ t j m. h t j m .0 in
-    record {
-      forward = λ t j m. let w = FifoLaws.forward cost ins pos env f bound covers t j m in
-          record { at = w .at; there = w .is; least = omega (arith, w .least, h t j m .1); most = w .most };
-      backward = λ t j m. let w = FifoLaws.backward cost ins pos env f bound covers t j m in
-          record { at = w .at; there = w .there; least = omega (arith, w .least, h (w .at) j (w .there) .1); most = w .most };
-      weighed = FifoLaws.weighed cost ins pos;
-    }
 
 module _ (net : Network) (sound : Sound net) (r : Run) (per : Permitted net r) (win : Windows net) where
   abbrev port-of : ℕ → ℕ
@@ -69,7 +56,7 @@ module _ (net : Network) (sound : Sound net) (r : Run) (per : Permitted net r) (
   abbrev pub Held-within : ℕ → ℕ → Type 0
   Held-within p t =
       let q = portArrived net t (ch net r t) (st net r t) p in
-      FifoLaws.free (portCost net p) t (q .link) + weigh (portCost net p) (q .line) ≤ t + portFigure net (jitterOf net) p
+      free (portCost net p) t (q .link) + weigh (portCost net p) (q .line) ≤ t + portFigure net (jitterOf net) p
 
   -- ---- one port, if what reaches it keeps its times
   module _ (p : ℕ) (arrive : (h : ℕ) → h < length (net .hops) → port-of h ≡ p → Delay (hand net r (hopAt net h .vl)) (into net r h) (win .soon h) (win .late h)) where
@@ -144,12 +131,12 @@ module _ (net : Network) (sound : Sound net) (r : Run) (per : Permitted net r) (
         (λ h m. let i = on-port net p h m in hop-rate h (i .0) (i .1))
 
     port-delay : Delay ins (fifo-out (portCost net p) ins) lo (portFigure net (jitterOf net) p)
-    port-delay = fifo-delay (portCost net p) ins lo costs (brought (portFlows net (jitterOf net) p)) (portFigure net (jitterOf net) p) bound (win .port-covers p)
+    port-delay = fifo-delay (portCost net p) ins (λ t c m. costs t c m .0) (brought (portFlows net (jitterOf net) p)) (portFigure net (jitterOf net) p)
+        bound (win .port-covers p) lo (λ t c m. costs t c m .1)
 
     held : (t : ℕ) → Held-within p t
-    unfolding FifoLaws.e
-    held t = subst (λ (q : Fifo Copy). FifoLaws.free (portCost net p) t (still t (q .link)) + weigh (portCost net p) (q .line ++ ins t) ≤ t + portFigure net (jitterOf net) p) (sym (port-is net r p t))
-        (FifoLaws.e-bound (portCost net p) ins (λ u c m. costs u c m .0) (brought (portFlows net (jitterOf net) p)) (portFigure net (jitterOf net) p) bound (win .port-covers p) t)
+    held t = rw (port-is net r p t) (work-within (portCost net p) ins (λ u c m. costs u c m .0)
+        (brought (portFlows net (jitterOf net) p)) (portFigure net (jitterOf net) p) bound (win .port-covers p) t)
 
     pub hop-delay : (h : ℕ) → port-of h ≡ p → Delay (into net r h) (left net r h) (hopLine net h) (figureOf net h)
     unfolding hopLine

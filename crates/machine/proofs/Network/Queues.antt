@@ -31,11 +31,12 @@ use Rattle.machine.proofs.Stage.Parts.{handed, queue}
 use Rattle.machine.proofs.Lists.Sums.{span-mono, span-same}
 use Rattle.machine.proofs.Stage.Lindley.{finish, finish-next, finish-bound}
 use Rattle.machine.proofs.Stage.Flows.{Covered, works-bound}
-use Rattle.machine.proofs.Lists.Turns.{Empty, Named, Within}
+use Rattle.machine.proofs.Lists.Turns.{Empty}
+use Rattle.machine.proofs.Lists.Lanes.{names, flat}
 use Rattle.machine.proofs.Stage.QueueSteps.{hand-count, tally-of, hand-origin}
-use Rattle.machine.proofs.Stage.QueueLaws.{Low, low-append, hand-bounds, forward, still-due, Gone}
+use Rattle.machine.proofs.Stage.QueueLaws.{Low, low-append, hand-bounds, forward, still-due}
 use Rattle.machine.proofs.Stage.Select.{count-chosen, was-chosen, is-passing, was-passing, any}
-use Rattle.machine.proofs.Lists.Start.{lanes-empty, lanes-length, lanes-named, turn-length, turn-mem, passing-all}
+use Rattle.machine.proofs.Lists.Start.{lanes-empty, lanes-length, lanes-names, turn-length, turn-mem, passing-all}
 use Rattle.machine.proofs.Network.Told.{arrival, Good, packets-mono, length-lines, length-number, was-number, is-number}
 use Rattle.machine.proofs.Network.Trace.{ch, news, hand, hand-is}
 use Rattle.machine.proofs.Network.Windows.{Windows, queueStation}
@@ -143,8 +144,9 @@ module _ (net : Network) (sound : Sound net) (r : Run) (per : Permitted net r) w
     pub empty₀ : Empty (s₀ .lanes)
     empty₀ = lanes-empty Packet (fromTurn (r .firstSub v) (passing (λ i. true) n))
 
-    pub named₀ : (i : ℕ) → i < n → Named i (s₀ .lanes)
-    named₀ i h = lanes-named Packet i (fromTurn (r .firstSub v) (passing (λ i. true) n)) (turn-mem (r .firstSub v) i (passing (λ i. true) n) (is-passing (λ i. true) n i h tt))
+    pub named₀ : (i : ℕ) → i < n → List·Memᴰ i (names (s₀ .lanes))
+    named₀ i h = rw (lanes-names Packet (fromTurn (r .firstSub v) (passing (λ i. true) n)))
+        (turn-mem (r .firstSub v) i (passing (λ i. true) n) (is-passing (λ i. true) n i h tt))
 
     -- ---- in frames
     was-framed : (t : ℕ) (o : Option Packet) (f : Frame) → List·Memᴰ f (framed v t o) → (o ≡ some (f .packet)) × (f .vl ≡ v) × (f .born ≡ t)
@@ -156,7 +158,7 @@ module _ (net : Network) (sound : Sound net) (r : Run) (per : Permitted net r) w
     pub hand-vl : (t : ℕ) (f : Frame) → List·Memᴰ f (hand net r v t) → v < length (net .vls)
     hand-vl t f k =
         let w = was-framed t (handed gap s₀ (news net r v) t) f (subst (λ (l : List Frame). List·Memᴰ f l) (hand-is net r v t) k) in
-        let o = hand-origin gap s₀ (news net r v) refl empty₀ Origin (λ u i y j. brought-facts u i y j .0) t (f .packet) (w .0) in
+        let o = hand-origin gap s₀ (news net r v) empty₀ Origin (λ u i y j. brought-facts u i y j .0) t (f .packet) (w .0) in
         subst (λ (z : ℕ). z < length (net .vls)) (o .vl) (sound .references .stream-vl (f .packet .message .stream) (o .message .stream))
 
     module _ (win : Windows net) (hv : v < length (net .vls)) where
@@ -203,12 +205,12 @@ module _ (net : Network) (sound : Sound net) (r : Run) (per : Permitted net r) w
       bounds = hand-bounds n gap by from fin (queueStation net v) (news net r v) fin-first fin-next fin-fresh
           (λ i t. lane-finish v i hv win t) brought-soon brought-low pos s₀ size₀ empty₀ refl
 
-      goes : (i : ℕ) → i < n → (t : ℕ) (x : Packet) → List·Memᴰ x (news net r v t i) → Gone (handed gap s₀ (news net r v)) x t
+      goes : (i : ℕ) → i < n → (t : ℕ) (x : Packet) → List·Memᴰ x (news net r v t i) → (u : ℕ) × (handed gap s₀ (news net r v) u ≡ some x)
       goes i h t x k = forward n gap by from fin (queueStation net v) (news net r v) fin-first fin-next fin-fresh
           (λ i t. lane-finish v i hv win t) brought-soon brought-low pos s₀ size₀ empty₀ refl i (named₀ i h) t x k
 
       -- no packet stays past its time
-      pub left-due : (t : ℕ) (x : Packet) → Within x (queue gap s₀ (news net r v) (suc t) .lanes) → t + gap ≤ by x
+      pub left-due : (t : ℕ) (x : Packet) → List·Memᴰ x (flat (queue gap s₀ (news net r v) (suc t) .lanes)) → t + gap ≤ by x
       left-due = still-due n gap by from fin (queueStation net v) (news net r v) fin-first fin-next fin-fresh
           (λ i t. lane-finish v i hv win t) brought-soon brought-low pos s₀ size₀ empty₀ refl
 
@@ -225,7 +227,7 @@ module _ (net : Network) (sound : Sound net) (r : Run) (per : Permitted net r) w
           let w = was-framed t (handed gap s₀ (news net r v) t) f (subst (λ (l : List Frame). List·Memᴰ f l) (hand-is net r v t) k) in
           let b = bounds t (f .packet) (w .0) in
           let x = f .packet in
-          let o = hand-origin gap s₀ (news net r v) refl empty₀ Origin (λ u i y j. brought-facts u i y j .0) t x (w .0) in
+          let o = hand-origin gap s₀ (news net r v) empty₀ Origin (λ u i y j. brought-facts u i y j .0) t x (w .0) in
           let g = o .message in
           let lm = vlAt net (vlOf net (x .message)) .lmax in
           let hw = sound .references .stream-vl (x .message .stream) (g .stream) in
@@ -271,12 +273,12 @@ module _ (net : Network) (sound : Sound net) (r : Run) (per : Permitted net r) w
           let x : Packet = record { message = m; index = 0 + k; bytes = b .0 } in
           let test-ok : T (test net v i m) = both (eqb (vlOf net m) v) (eqb i i) (eq→eqb (vlOf net m) v e) (lib.Dec.eqb-refl i) in
           let o = goes i (subst (λ (w : ℕ). i < vlAt net w .sublinks) e (sound .references .stream-sub-link (m .stream) (g .stream))) a x (is-brought net v i (ch net r a .reach) m x j test-ok (b .1)) in
-          let f : Frame = record { packet = x; vl = v; born = o .at } in
+          let f : Frame = record { packet = x; vl = v; born = o .0 } in
           record {
             frame = f;
-            at = o .at;
-            there = subst (λ (l : List Frame). List·Memᴰ f l) (sym (hand-is net r v (o .at)))
-                (subst (λ (q : Option Packet). List·Memᴰ f (framed v (o .at) q)) (sym (o .is)) (List·Memᴰ·head refl));
+            at = o .0;
+            there = subst (λ (l : List Frame). List·Memᴰ f l) (sym (hand-is net r v (o .0)))
+                (subst (λ (q : Option Packet). List·Memᴰ f (framed v (o .0) q)) (sym (o .1)) (List·Memᴰ·head refl));
             message = refl;
             index = omega arith;
           }

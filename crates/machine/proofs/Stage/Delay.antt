@@ -2,9 +2,9 @@
 -- Assumes nothing.
 use Prim.Native.Nat.{ℕ, zero, suc, _+_, _≤_, _<_}
 use mathlib.Core.Bool.{Bool, true, false, not, cond}
-use mathlib.Core.List.{List, [], _∷_, _++_, List·Memᴰ, List·Memᴰ·head, List·Memᴰ·tail, List·Memᴰ·cases-cons, List·Memᴰ·append-cases, Memᴰ·append-left, Memᴰ·append-right, Memᴰ·cast, List·Permᴰ, List·Permᴰ·nil, List·Permᴰ·cons, List·Permᴰ·swap, List·Permᴰ·trans, Permᴰ·symm}
+use mathlib.Core.List.{List, [], _∷_, _++_, List·Memᴰ, List·Memᴰ·append-cases, Memᴰ·append-left, Memᴰ·append-right, Memᴰ·cast, List·Permᴰ, Permᴰ·symm}
 use mathlib.Core.Logic.{_⊎_, ⊎-elim}
-use mathlib.Core.Path.{_≡_, refl, sym, ap, _∙_, subst, subst₂, fun-ext}
+use mathlib.Core.Path.{_≡_, refl, sym, ap, subst, subst₂, fun-ext}
 use native.Mathlib.Nat.{le-of-eq, le-trans}
 use native.Mathlib.Omega.{arith}
 use lib.Dec.{leb, leb→le, le→leb, nleb→lt}
@@ -13,6 +13,7 @@ use Rattle.machine.specs.Sum.{weigh}
 use Rattle.machine.specs.Lists.{chosen}
 use Rattle.machine.specs.Pool.{Due, setOut, landed, later}
 use Rattle.machine.proofs.Lists.Cases.{by-leb₂, lt→nleb}
+use Rattle.machine.proofs.Lists.Orders.{perm-weigh, perm-mem, none-in}
 use Rattle.machine.proofs.Stage.Select.{any, was-chosen, is-chosen, chosen-weigh}
 use Rattle.machine.proofs.Stage.Parts.{pool, lands}
 use Rattle.machine.proofs.Lists.Sums.{upto, upto-same, weigh-append}
@@ -48,22 +49,6 @@ module _ {X : Type 0} where
   }
 
   -- ---- reorderings
-  pub perm-weigh : (w : X → ℕ) {l r : List X} → List·Permᴰ l r → weigh w l ≡ weigh w r
-  unfolding total
-  perm-weigh w List·Permᴰ·nil = refl
-  perm-weigh w (List·Permᴰ·cons e h) = omega (arith, ap w e, perm-weigh w h)
-  perm-weigh w (List·Permᴰ·swap e f) = omega (arith, ap w e, ap w f)
-  perm-weigh w (List·Permᴰ·trans h k) = perm-weigh w h ∙ perm-weigh w k
-
-  pub perm-mem : {x : X} {l r : List X} → List·Permᴰ l r → List·Memᴰ x l → List·Memᴰ x r
-  perm-mem List·Permᴰ·nil m = m
-  perm-mem {x} (List·Permᴰ·cons e h) m = ⊎-elim (λ i. List·Memᴰ·head (i ∙ e)) (λ i. List·Memᴰ·tail (perm-mem h i)) (List·Memᴰ·cases-cons m)
-  perm-mem {x} (List·Permᴰ·swap e f) m = ⊎-elim
-      (λ i. List·Memᴰ·tail (List·Memᴰ·head (i ∙ e)))
-      (λ i. ⊎-elim (λ j. List·Memᴰ·head (j ∙ f)) (λ j. List·Memᴰ·tail (List·Memᴰ·tail j)) (List·Memᴰ·cases-cons i))
-      (List·Memᴰ·cases-cons m)
-  perm-mem (List·Permᴰ·trans h k) m = perm-mem k (perm-mem h m)
-
   pub reordered : {f g : ℕ → List X} → ((t : ℕ) → List·Permᴰ (f t) (g t)) → Delay f g 0 0
   reordered {f} {g} h = record {
     forward = λ t x m. record { at = t; there = perm-mem (h t) m; least = omega arith; most = omega arith };
@@ -155,13 +140,9 @@ module _ {X : Type 0} where
     all-landed w t h = omega (
       arith,
       kept w t,
-      ap (weigh (λ d. w (d .item))) (none-left (pool delay ins t)
+      ap (weigh (λ d. w (d .item))) (none-in (pool delay ins t)
           (λ d m. let f = from t d (Memᴰ·append-left (setOut t (delay t) (ins t)) m) in omega (arith, f .ends, f .now, h (f .at) (d .item) (f .there)))),
     )
-      where
-        none-left : (l : List (Due X)) → ((d : Due X) → List·Memᴰ d l → ⊥) → l ≡ []
-        none-left [] k = refl
-        none-left (d ∷ l) k = absurd (k d (List·Memᴰ·head refl))
 
     pub landed-from : (t : ℕ) (x : X) → List·Memᴰ x (lands delay ins t) → (u : ℕ) × List·Memᴰ x (ins u) × (u + delay u x ≡ t)
     unfolding lands

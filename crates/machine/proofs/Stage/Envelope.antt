@@ -14,7 +14,7 @@ use Rattle.base.proofs.Every.{left, right}
 use Rattle.station.specs.Station.{Flow, most}
 use Rattle.machine.specs.Sum.{span, count, tally}
 use Rattle.machine.proofs.Lists.Cases.{both}
-use Rattle.machine.proofs.Lists.Sums.{span-suc, span-mono, span-same, span-zeros, upto}
+use Rattle.machine.proofs.Lists.Sums.{span-suc, span-mono, span-same, span-zeros, upto, upto-none}
 use Rattle.machine.proofs.Stage.Select.{any}
 use Rattle.machine.proofs.Stage.Delay.{Delay}
 
@@ -25,11 +25,6 @@ pub upto-split : (f : ℕ → ℕ) (a k : ℕ) → upto f (suc (a + k)) ≡ upto
 unfolding upto span
 upto-split f a zero = ap (upto f) (ap suc (add-zero a))
 upto-split f a (suc k) = ap (λ (n : ℕ). upto f n + f n) (add-suc a k) ∙ (omega (arith, upto-split f a k))
-
-upto-zeros : (f : ℕ → ℕ) (a : ℕ) → ((t : ℕ) → t < a → f t ≡ zero) → upto f a ≡ zero
-unfolding upto
-upto-zeros f zero h = refl
-upto-zeros f (suc a) h = omega (arith, upto-zeros f a (λ t k. h t (omega arith)), h a (omega arith))
 
 span-tail : (f : ℕ → ℕ) (a w j : ℕ) → ((t : ℕ) → a + w < t → f t ≡ zero) → span f a (w + j) ≡ span f a w
 span-tail f a w zero h = ap (span f a) (add-zero w)
@@ -109,7 +104,7 @@ module _ {X : Type 0} where
         let s₂ : upto g (suc (x + d)) ≡ upto g x + span g x d = upto-split g x d in
         let s₃ = del .weighed (λ y. tally (inside x d y)) (suc (x + d)) in
         let s₄ : upto f (suc (a + (w + lo))) ≡ upto f a + span f a (w + lo) = upto-split f a (w + lo) in
-        let s₅ : upto f a ≡ zero = upto-zeros f a (λ t k. src-outside x d t (inl (omega arith))) in
+        let s₅ : upto f a ≡ zero = upto-none f a (λ t k. src-outside x d t (inl (omega arith))) in
         let s₆ : span f a (w + lo) ≡ span f a w = span-tail f a w lo (λ t k. src-outside x d t (inr (omega arith))) in
         let s₇ = span-mono f (λ t. count any (src t)) (λ t. count-any (inside x d) (src t)) a w in
         let s₈ : upto f (suc (x + d)) ≡ upto f (suc (a + (w + lo))) = ap (λ (n : ℕ). upto f (suc n)) (omega arith) in

@@ -1,82 +1,117 @@
--- What a port does to what arrives: each job leaves once, not before its own cost and not after the figure. The work that is there after a tick's arrivals is done within the figure, since arrivals are covered by it.
+-- What a port does to what arrives: each job leaves once, not before its own cost and not after the figure. Its FIFO is a list of jobs with the
+-- ticks at which they will be sent whole: what arrives is put at its end, and nothing else changes but that the first of it leaves in its tick.
 -- Assumes nothing.
-use Prim.Native.Nat.{ℕ, zero, suc, _+_, _≤_, _<_, max}
-use mathlib.Core.Bool.{cond}
+use Prim.Native.Nat.{ℕ, zero, suc, _+_, _≤_, _<_}
 use mathlib.Core.List.{List, [], _∷_, _++_, List·Memᴰ, List·Memᴰ·head, List·Memᴰ·tail, List·Memᴰ·not-nil, List·Memᴰ·eq-of-singleton}
+use mathlib.Core.List.{List·Memᴰ·cases-cons, List·Memᴰ·append-cases, Memᴰ·append-left, Memᴰ·append-right, Permᴰ·refl}
 use mathlib.Core.Logic.{_⊎_, inl, inr, ⊎-elim}
 use mathlib.Core.Option.{Option, none, some}
-use mathlib.Core.Path.{_≡_, refl, sym, ap, subst}
-use native.Mathlib.Nat.{le-refl, le-of-eq, add-zero, add-assoc}
+use mathlib.Core.Path.{_≡_, refl, sym, ap, _∙_, subst}
+use native.Mathlib.Nat.{add-zero, add-assoc, le-refl}
 use native.Mathlib.Omega.{arith}
-use lib.Dec.{leb}
 use Rattle.base.specs.Tabulate.{total}
 use Rattle.machine.specs.Sum.{span, weigh}
 use Rattle.machine.specs.Fifo.{Sent, ended, still, start}
 use Rattle.machine.proofs.Lists.Cases.{by-leb, by-leb₂}
-use Rattle.machine.proofs.Stage.Parts.{fifo, fifo-out}
 use Rattle.machine.proofs.Lists.Sums.{upto, weigh-append}
-use Rattle.machine.proofs.Stage.Lindley.{work-bound}
+use Rattle.machine.proofs.Stage.Parts.{fifo, fifo-out}
+use Rattle.machine.proofs.Stage.Delay.{Delay}
+use Rattle.machine.proofs.Stage.Moves as Moves
+use Rattle.machine.proofs.Stage.LinkLaws.{free, Starts, goes-on, takes, rests, Settled}
+use Rattle.machine.proofs.Stage.LinkLaws as Link
 
 module _ {Job : Type 0} (cost : Job → ℕ) where
-  abbrev works : List Job → ℕ
-  works l = weigh cost l
+  -- the jobs of a line, each with the tick at which it is sent whole, if the link is free at e; and all that the port will send
+  plan : ℕ → List Job → List (Sent Job)
+  plan e [] = []
+  plan e (j ∷ l) = record { job = j; ends = e + cost j } ∷ plan (e + cost j) l
 
-  -- the tick at which the link is free
-  unfoldable pub free : ℕ → Option (Sent Job) → ℕ
-  free t none = t
-  free t (some s) = s .ends
+  future : ℕ → List Job → Option (Sent Job) → List (Sent Job)
+  future t l none = plan t l
+  future t l (some s) = s ∷ plan (s .ends) l
 
-  -- Q holds of each job of the line and the tick at which it will be sent whole, if the link is free at e
-  Sched : (Job → ℕ → Type 0) → ℕ → List Job → Type 0
-  Sched Q e [] = Unit {0}
-  Sched Q e (j ∷ js) = (0 < cost j) × Q j (e + cost j) × Sched Q (e + cost j) js
+  plan-append : (e : ℕ) (l r : List Job) → plan e (l ++ r) ≡ plan e l ++ plan (e + weigh cost l) r
+  unfolding plan total
+  plan-append e [] r = ap (λ (n : ℕ). plan n r) (sym (add-zero e))
+  plan-append e (j ∷ l) r = rw (plan-append (e + cost j) l r, add-assoc e (cost j) (weigh cost l))
 
-  sched-append : (Q : Job → ℕ → Type 0) (l r : List Job) (e : ℕ) → Sched Q e l → Sched Q (e + works l) r → Sched Q e (l ++ r)
-  unfolding total Sched
-  sched-append Q [] r e h k = subst (λ (n : ℕ). Sched Q n r) (add-zero e) k
-  sched-append Q (j ∷ l) r e h k = (h .0, h .1, sched-append Q l r (e + cost j) (h .2) (subst (λ (n : ℕ). Sched Q n r) (sym (add-assoc e (cost j) (works l))) k))
+  future-append : (t : ℕ) (l r : List Job) (k : Option (Sent Job)) → future t (l ++ r) k ≡ future t l k ++ plan (free cost t k + weigh cost l) r
+  unfolding future free
+  future-append t l r none = plan-append t l r
+  future-append t l r (some s) = ap (λ (p : List (Sent Job)). s ∷ p) (plan-append (s .ends) l r)
 
-  sched-new : (Q : Job → ℕ → Type 0) (t b : ℕ) (r : List Job)
-      → ((j : Job) → List·Memᴰ j r → 0 < cost j)
-      → ((j : Job) (e : ℕ) → List·Memᴰ j r → t + cost j ≤ e → e ≤ b → Q j e)
-      → (e : ℕ) → t ≤ e → e + works r ≤ b → Sched Q e r
-  unfolding total Sched
-  sched-new Q t b [] c h e k m = tt
-  sched-new Q t b (j ∷ r) c h e k m = (
-    c j (List·Memᴰ·head refl),
-    h j (e + cost j) (List·Memᴰ·head refl) (omega arith) (omega arith),
-    sched-new Q t b r (λ i n. c i (List·Memᴰ·tail n)) (λ i d n. h i d (List·Memᴰ·tail n)) (e + cost j) (omega arith) (omega arith),
-  )
+  future-start : (t : ℕ) (l : List Job) (k : Option (Sent Job)) → future t (start cost t l k .line) (start cost t l k .link) ≡ future t l k
+  unfolding future plan
+  future-start t [] none = refl
+  future-start t (j ∷ l) none = refl
+  future-start t l (some s) = refl
 
-  -- after tick t: an idle link has no line, a busy one ends later, and Q holds of all that is there
-  Inv : (Job → ℕ → Type 0) → ℕ → List Job → Option (Sent Job) → Type 0
-  Inv Q t l none = l ≡ []
-  Inv Q t l (some s) = (t < s .ends) × Q (s .job) (s .ends) × Sched Q (s .ends) l
+  plan-known : (e : ℕ) (l : List Job) (x : Sent Job) → List·Memᴰ x (plan e l)
+      → List·Memᴰ (x .job) l × (e + cost (x .job) ≤ x .ends) × (x .ends ≤ e + weigh cost l)
+  unfolding plan total
+  plan-known e [] x m = absurd (List·Memᴰ·not-nil m)
+  plan-known e (j ∷ l) x m = ⊎-elim
+      (λ p. let b = ap (λ (z : Sent Job). cost (z .job)) p in let n = ap (λ (z : Sent Job). z .ends) p in
+      (List·Memᴰ·head (ap (λ (z : Sent Job). z .job) p), omega arith, omega arith))
+      (λ i. let w = plan-known (e + cost j) l x i in (List·Memᴰ·tail (w .0), omega (arith, w .1), omega (arith, w .2)))
+      (List·Memᴰ·cases-cons m)
 
-  inv-start : (Q : Job → ℕ → Type 0) (t : ℕ) (l : List Job) → Sched Q t l
-      → Inv Q t (start cost t l none .line) (start cost t l none .link)
-  unfolding Inv Sched
-  inv-start Q t [] h = refl
-  inv-start Q t (j ∷ l) h = (omega (arith, h .0), h .1, h .2)
+  plan-has : (e : ℕ) (l : List Job) (j : Job) → List·Memᴰ j l → (n : ℕ) × List·Memᴰ (record { job = j; ends = n }) (plan e l)
+  unfolding plan
+  plan-has e (i ∷ l) j (List·Memᴰ·head p) = (e + cost i, List·Memᴰ·head (ap (λ (z : Job). record { job = z; ends = e + cost i }) p))
+  plan-has e (i ∷ l) j (List·Memᴰ·tail m) = let w = plan-has (e + cost i) l j m in (w .0, List·Memᴰ·tail (w .1))
 
-  inv-step : (Q : Job → ℕ → Type 0) (t : ℕ) (l : List Job) (k : Option (Sent Job)) (r : List Job) → Inv Q t l k
-      → Sched Q (free (suc t) (still (suc t) k) + works l) r
-      → Inv Q (suc t) (start cost (suc t) (l ++ r) (still (suc t) k) .line) (start cost (suc t) (l ++ r) (still (suc t) k) .link)
-  unfolding Inv Sched free total
-  inv-step Q t l none r i h =
-      inv-start Q (suc t) (l ++ r)
-      (sched-append Q l r (suc t) (subst (λ (m : List Job). Sched Q (suc t) m) (sym i) tt) h)
-  inv-step Q t l (some s) r i h = go h
-    where
-      P : Option (Sent Job) → Type 0
-      P k = Sched Q (free (suc t) k + works l) r → Inv Q (suc t) (start cost (suc t) (l ++ r) k .line) (start cost (suc t) (l ++ r) k .link)
+  -- ---- ends of sending: what will be sent is sent now or later
+  sent-or-later : (t : ℕ) (l : List Job) (k : Option (Sent Job)) → Settled cost t l k → (x : Sent Job) → List·Memᴰ x (future t l k)
+      → ((x .ends ≡ suc t) × List·Memᴰ (x .job) (ended (suc t) k)) ⊎ List·Memᴰ x (future (suc t) l (still (suc t) k))
+  unfolding future plan
+  sent-or-later t l none h x m = absurd (List·Memᴰ·not-nil (rw h at m))
+  sent-or-later t l (some s) h x m = by-leb₂ (s .ends) (suc t)
+      (λ (o : List Job) (k : Option (Sent Job)). ((x .ends ≡ suc t) × List·Memᴰ (x .job) o) ⊎ List·Memᴰ x (future (suc t) l k))
+      (λ a. let now : s .ends ≡ suc t = omega arith in ⊎-elim
+      (λ p. inl (ap (λ (z : Sent Job). z .ends) p ∙ now, List·Memᴰ·head (ap (λ (z : Sent Job). z .job) p)))
+      (λ i. inr (rw now at i))
+      (List·Memᴰ·cases-cons m))
+      (λ a. inr m)
 
-      go : P (cond (leb (s .ends) (suc t)) none (some s))
-      go = by-leb (s .ends) (suc t) P
-          (λ m n. inv-start Q (suc t) (l ++ r) (sched-append Q l r (suc t) (subst (λ (e : ℕ). Sched Q e l) (omega arith) (i .2)) n))
-          (λ m n. (m, i .1, sched-append Q l r (s .ends) (i .2) n))
+  was-to-be-sent : (t : ℕ) (l : List Job) (k : Option (Sent Job)) → Settled cost t l k → (x : Sent Job)
+      → List·Memᴰ x (future (suc t) l (still (suc t) k)) → List·Memᴰ x (future t l k)
+  unfolding future plan
+  was-to-be-sent t l none h x = λ m. absurd (List·Memᴰ·not-nil (rw h at m))
+  was-to-be-sent t l (some s) h x = by-leb (s .ends) (suc t)
+      (λ (k : Option (Sent Job)). List·Memᴰ x (future (suc t) l k) → List·Memᴰ x (s ∷ plan (s .ends) l))
+      (λ a m. let now : s .ends ≡ suc t = omega arith in rw now (List·Memᴰ·tail m)) (λ a m. m)
 
-  -- ---- the work, tick by tick
+  sent-now : (t : ℕ) (l : List Job) (k : Option (Sent Job)) → Settled cost t l k → (j : Job) → List·Memᴰ j (ended (suc t) k)
+      → List·Memᴰ (record { job = j; ends = suc t }) (future t l k)
+  unfolding future
+  sent-now t l none h j = λ m. absurd (List·Memᴰ·not-nil m)
+  sent-now t l (some s) h j = by-leb (s .ends) (suc t)
+      (λ (o : List Job). List·Memᴰ j o → List·Memᴰ (record { job = j; ends = suc t }) (s ∷ plan (s .ends) l))
+      (λ a m. let now : suc t ≡ s .ends = omega arith in let p : j ≡ s .job = List·Memᴰ·eq-of-singleton m in List·Memᴰ·head (rw (now, p)))
+      (λ a m. absurd (List·Memᴰ·not-nil m))
+
+  not-yet : (t : ℕ) (l : List Job) (k : Option (Sent Job)) → Settled cost t l k → (x : Sent Job) → List·Memᴰ x (future t l k) → t < x .ends
+  unfolding future plan
+  not-yet t l none h x m = absurd (List·Memᴰ·not-nil (rw h at m))
+  not-yet t l (some s) h x m = ⊎-elim (λ p. omega (arith, ap (λ (z : Sent Job). z .ends) p)) (λ i. omega (arith, plan-known (s .ends) l x i .1))
+      (List·Memᴰ·cases-cons m)
+
+  late : (t : ℕ) (k : Option (Sent Job)) → t ≤ free cost t (still t k)
+  unfolding free
+  late t none = le-refl t
+  late t (some s) = by-leb (s .ends) t (λ (k : Option (Sent Job)). t ≤ free cost t k) (λ m. le-refl t) (λ m. omega arith)
+
+  idle-starts : (t : ℕ) (l : List Job) → Starts cost t l none (start cost t l none .line) (start cost t l none .link)
+  idle-starts t [] = rests (Permᴰ·refl []) refl
+  idle-starts t (j ∷ l) = takes (Permᴰ·refl (j ∷ l))
+
+  starts : (t : ℕ) (l : List Job) (k : Option (Sent Job)) → Starts cost t l (still t k) (start cost t l (still t k) .line) (start cost t l (still t k) .link)
+  starts t l none = idle-starts t l
+  starts t l (some s) = by-leb (s .ends) t (λ (k : Option (Sent Job)). Starts cost t l k (start cost t l k .line) (start cost t l k .link))
+      (λ m. idle-starts t l) (λ m. goes-on m (Permᴰ·refl l))
+
+  -- ---- tick by tick
   module _ (ins : ℕ → List Job) (pos : (t : ℕ) (j : Job) → List·Memᴰ j (ins t) → 0 < cost j) where
     abbrev line : ℕ → List Job
     line t = fifo cost ins t .line
@@ -84,204 +119,91 @@ module _ {Job : Type 0} (cost : Job → ℕ) where
     abbrev link : ℕ → Option (Sent Job)
     link t = fifo cost ins t .link
 
-    -- when all that is there after the arrivals of tick t is sent
-    unfoldable pub e : ℕ → ℕ
-    e t = free t (still t (link t)) + works (line t ++ ins t)
+    step : (t : ℕ) → Starts cost t (line t ++ ins t) (still t (link t)) (line (suc t)) (link (suc t))
+    unfolding fifo
+    step t = starts t (line t ++ ins t) (link t)
 
-    done-start : (t : ℕ) (l : List Job) (k : Option (Sent Job)) → free t (start cost t l k .link) + works (start cost t l k .line) ≡ free t k + works l
-    unfolding free total
-    done-start t [] none = refl
-    done-start t (j ∷ l) none = omega arith
-    done-start t l (some s) = refl
+    line₀ : line zero ≡ []
+    unfolding fifo
+    line₀ = refl
 
-    inv : (Q : Job → ℕ → Type 0) → ((t : ℕ) → Sched Q (free t (still t (link t)) + works (line t)) (ins t)) → (t : ℕ) → Inv Q t (line (suc t)) (link (suc t))
-    unfolding fifo free total
-    inv Q h zero = inv-start Q zero (ins zero) (h zero)
-    inv Q h (suc t) = inv-step Q t (line (suc t)) (link (suc t)) (ins (suc t)) (inv Q h t) (h (suc t))
+    link₀ : link zero ≡ none
+    unfolding fifo
+    link₀ = refl
 
-    no-q : Job → ℕ → Type 0
-    no-q j n = Unit {0}
+    -- all that the port will send after tick t: what was left, and what has come
+    to-send : ℕ → List (Sent Job)
+    to-send t = future t (line (suc t)) (link (suc t))
 
-    sched-no-q : (n : ℕ) (l : List Job) → ((j : Job) → List·Memᴰ j l → 0 < cost j) → Sched no-q n l
-    unfolding Sched no-q
-    sched-no-q n [] c = tt
-    sched-no-q n (j ∷ l) c = (c j (List·Memᴰ·head refl), tt, sched-no-q (n + cost j) l (λ i m. c i (List·Memᴰ·tail m)))
+    abbrev left : ℕ → List (Sent Job)
+    left t = future t (line t) (still t (link t))
 
-    e-next : (t : ℕ) (l : List Job) (k : Option (Sent Job)) → Inv no-q t l k → free (suc t) (still (suc t) k) + works l ≤ max (free t k + works l) (suc t)
-    unfolding Inv free total
-    e-next t l none i = omega (arith, ap works i)
-    e-next t l (some s) i = by-leb (s .ends) (suc t) (λ (k : Option (Sent Job)). free (suc t) k + works l ≤ max (s .ends + works l) (suc t)) (λ m. omega arith) (λ m. omega arith)
+    abbrev added : ℕ → List (Sent Job)
+    added t = plan (free cost t (still t (link t)) + weigh cost (line t)) (ins t)
 
-    next : (t : ℕ) → e (suc t) ≤ max (e t) (suc t) + works (ins (suc t))
-    unfolding e fifo
-    next t =
-        let d = done-start t (line t ++ ins t) (still t (link t)) in
-        let i = e-next t (line (suc t)) (link (suc t)) (inv no-q (λ u. sched-no-q (free u (still u (link u)) + works (line u)) (ins u) (pos u)) t) in
-        omega (arith, d, i, weigh-append cost (line (suc t)) (ins (suc t)))
+    to-send-is : (t : ℕ) → to-send t ≡ left t ++ added t
+    unfolding to-send fifo
+    to-send-is t = future-start t (line t ++ ins t) (still t (link t)) ∙ future-append t (line t) (ins t) (still t (link t))
 
-    first : e zero ≤ works (ins zero)
-    unfolding e fifo free
-    first = omega arith
+    settled : (t : ℕ) → Settled cost t (line (suc t)) (link (suc t))
+    settled = Link.settled cost line link ins line₀ link₀ step pos
+
+    pub weighed : (w : Job → ℕ) (t : ℕ) → upto (λ u. weigh w (fifo-out cost ins u)) t ≤ upto (λ u. weigh w (ins u)) t
+    unfolding fifo-out
+    weighed = Moves.weighed (Link.there cost line link ins line₀ link₀ step pos) ins (λ t. ended t (link t))
+        (Link.none-first cost line link ins line₀ link₀ step pos) (Link.moves cost line link ins line₀ link₀ step pos)
 
     -- ---- with an arrival bound and a figure that covers it
-    module _ (env : ℕ → ℕ) (f : ℕ) (bound : (x d : ℕ) → span (λ t. works (ins t)) x d ≤ env d) (covers : (d : ℕ) → env d ≤ f + d) where
-      pub e-bound : (t : ℕ) → e t ≤ t + f
-      e-bound t = work-bound e (λ u. works (ins u)) env f (λ d. Unit {0}) first next (λ x d k. bound x d) tt (λ d k h. tt) (λ u x. Unit {0}) tt (λ u x b k. tt) (λ u k. tt) (λ d k. covers d) t
+    module _ (env : ℕ → ℕ) (f : ℕ) (bound : (x d : ℕ) → span (λ t. weigh cost (ins t)) x d ≤ env d) (covers : (d : ℕ) → env d ≤ f + d) where
+      pub work-within : (t : ℕ) → free cost t (still t (link t)) + weigh cost (line t ++ ins t) ≤ t + f
+      work-within t = omega (
+        arith,
+        Link.e-is cost line link ins line₀ link₀ step pos t,
+        Link.e-bound cost line link ins line₀ link₀ step pos env f bound covers t,
+      )
 
-      -- what holds of each arrival at each tick from its own cost to the figure later, holds of it as it leaves
-      late : (t : ℕ) → t ≤ free t (still t (link t))
-      unfolding free fifo Inv
-      late zero = le-refl 0
-      late (suc t) = go (link (suc t))
-        where
-          go : (k : Option (Sent Job)) → suc t ≤ free (suc t) (still (suc t) k)
-          go none = le-refl (suc t)
-          go (some s) = by-leb (s .ends) (suc t) (λ (k : Option (Sent Job)). suc t ≤ free (suc t) k) (λ m. le-refl (suc t)) (λ m. omega arith)
+      -- a job came at a tick from which its own cost, and no more than the figure, has passed when it is sent whole
+      abbrev Within : ℕ → Sent Job → Type 0
+      Within t x = List·Memᴰ (x .job) (ins t) × (t + cost (x .job) ≤ x .ends) × (x .ends ≤ t + f)
 
-      module _ (Q : Job → ℕ → Type 0) (h : (t : ℕ) (j : Job) (n : ℕ) → List·Memᴰ j (ins t) → t + cost j ≤ n → n ≤ t + f → Q j n) where
-        inv-q : (t : ℕ) → Inv Q t (line (suc t)) (link (suc t))
-        unfolding e
-        inv-q = inv Q (λ t. sched-new Q t (t + f) (ins t) (pos t) (h t) (free t (still t (link t)) + works (line t)) (omega (arith, late t))
-            (omega (arith, e-bound t, weigh-append cost (line t) (ins t))))
+      new : (t : ℕ) (x : Sent Job) → List·Memᴰ x (added t) → Within t x
+      new t x m =
+          let w = plan-known (free cost t (still t (link t)) + weigh cost (line t)) (ins t) x m in
+          (w .0, omega (arith, w .1, late t (link t)), omega (arith, w .2, work-within t, weigh-append cost (line t) (ins t)))
 
-        leaves : (t : ℕ) (l : List Job) (k : Option (Sent Job)) → Inv Q t l k → (j : Job) → List·Memᴰ j (ended (suc t) k) → Q j (suc t)
-        unfolding Inv
-        leaves t l none i j = λ m. absurd (List·Memᴰ·not-nil m)
-        leaves t l (some s) i j = by-leb (s .ends) (suc t) (λ (o : List Job). List·Memᴰ j o → Q j (suc t))
-            (λ b m. subst (λ (n : ℕ). Q j n) (omega arith) (subst (λ (x : Job). Q x (s .ends)) (sym (List·Memᴰ·eq-of-singleton m)) (i .1)))
-            (λ b m. absurd (List·Memᴰ·not-nil m))
+      came : (t : ℕ) (x : Sent Job) → List·Memᴰ x (left t ++ added t) → (u : ℕ) × Within u x
+      unfolding fifo future plan to-send
+      came zero x m = ⊎-elim (λ i. absurd (List·Memᴰ·not-nil i)) (λ i. (zero, new zero x i)) (List·Memᴰ·append-cases (left zero) m)
+      came (suc t) x m = ⊎-elim
+          (λ i. came t x (rw (to-send-is t) at (was-to-be-sent t (line (suc t)) (link (suc t)) (settled t) x i)))
+          (λ i. (suc t, new (suc t) x i))
+          (List·Memᴰ·append-cases (left (suc t)) m)
 
-        pub safe : (t : ℕ) (j : Job) → List·Memᴰ j (fifo-out cost ins t) → Q j t
-        unfolding fifo-out fifo
-        safe zero j m = absurd (List·Memᴰ·not-nil m)
-        safe (suc t) j m = leaves t (line (suc t)) (link (suc t)) (inv-q t) j m
+      goes : (n t : ℕ) (x : Sent Job) → x .ends ≤ t + n → List·Memᴰ x (to-send t) → List·Memᴰ (x .job) (fifo-out cost ins (x .ends))
+      unfolding to-send fifo-out
+      goes zero t x b m = absurd (omega (arith, not-yet t (line (suc t)) (link (suc t)) (settled t) x m))
+      goes (suc n) t x b m = ⊎-elim
+          (λ g. subst (λ (u : ℕ). List·Memᴰ (x .job) (ended u (link u))) (sym (g .0)) (g .1))
+          (λ g. goes n (suc t) x (omega arith) (subst (List·Memᴰ x) (sym (to-send-is (suc t))) (Memᴰ·append-left (added (suc t)) g)))
+          (sent-or-later t (line (suc t)) (link (suc t)) (settled t) x m)
 
-      -- each job that leaves came in at a tick from which its own cost, and no more than the figure, has passed
-      pub record Came (j : Job) (n : ℕ) : Type 0 where
-        pub at : ℕ
-        pub there : List·Memᴰ j (ins at)
-        pub least : at + cost j ≤ n
-        pub most : n ≤ at + f
+      back : (t : ℕ) (j : Job) → List·Memᴰ j (fifo-out cost ins t) → (u : ℕ) × Within u (record { job = j; ends = t })
+      unfolding fifo-out fifo to-send
+      back zero j m = absurd (List·Memᴰ·not-nil m)
+      back (suc t) j m = came t (record { job = j; ends = suc t })
+          (rw (to-send-is t) at (sent-now t (line (suc t)) (link (suc t)) (settled t) j m))
 
-      pub backward : (t : ℕ) (j : Job) → List·Memᴰ j (fifo-out cost ins t) → Came j t
-      backward = safe Came (λ t j n m a b. record { at = t; there = m; least = a; most = b })
-
-      -- ---- forward: each job that comes leaves
-      -- j is in the line and will be sent whole at x, if the link is free at n
-      In : ℕ → List Job → Job → ℕ → Type 0
-      In n [] j x = ⊥
-      In n (i ∷ l) j x = ((i ≡ j) × (n + cost i ≡ x)) ⊎ In (n + cost i) l j x
-
-      in-left : (l r : List Job) (n : ℕ) (j : Job) (x : ℕ) → In n l j x → In n (l ++ r) j x
-      unfolding In
-      in-left [] r n j x h = absurd h
-      in-left (i ∷ l) r n j x (inl h) = inl h
-      in-left (i ∷ l) r n j x (inr h) = inr (in-left l r (n + cost i) j x h)
-
-      in-right : (l r : List Job) (n : ℕ) (j : Job) (x : ℕ) → In (n + works l) r j x → In n (l ++ r) j x
-      unfolding In total
-      in-right [] r n j x h = subst (λ (m : ℕ). In m r j x) (add-zero n) h
-      in-right (i ∷ l) r n j x h = inr (in-right l r (n + cost i) j x (subst (λ (m : ℕ). In m r j x) (sym (add-assoc n (cost i) (works l))) h))
-
-      -- the tick at which a new job will be sent whole
-      pub record Ends (P : ℕ → Type 0) (lo hi : ℕ) : Type 0 where
-        pub at : ℕ
-        pub is : P at
-        pub least : lo ≤ at
-        pub most : at ≤ hi
-
-      in-new : (r : List Job) (n : ℕ) (j : Job) → List·Memᴰ j r → Ends (In n r j) (n + cost j) (n + works r)
-      unfolding In total
-      in-new (i ∷ r) n j (List·Memᴰ·head p) = record { at = n + cost i; is = inl (sym p, refl); least = le-of-eq (ap (λ (y : Job). n + cost y) p); most = omega arith }
-      in-new (i ∷ r) n j (List·Memᴰ·tail m) =
-          let h = in-new r (n + cost i) j m in
-          record { at = h .at; is = inr (h .is); least = omega (arith, h .least); most = omega (arith, h .most) }
-
-      -- j is there after a tick, and will be sent whole at x
-      Holds : List Job → Option (Sent Job) → Job → ℕ → Type 0
-      Holds l none j x = ⊥
-      Holds l (some s) j x = ((s .job ≡ j) × (s .ends ≡ x)) ⊎ In (s .ends) l j x
-
-      holds-start : (t : ℕ) (l : List Job) (j : Job) (x : ℕ) → In t l j x → Holds (start cost t l none .line) (start cost t l none .link) j x
-      unfolding In Holds
-      holds-start t [] j x h = absurd h
-      holds-start t (i ∷ l) j x h = h
-
-      enters : (t : ℕ) (l r : List Job) (k : Option (Sent Job)) (j : Job) (x : ℕ) → In (free t k + works l) r j x
-          → Holds (start cost t (l ++ r) k .line) (start cost t (l ++ r) k .link) j x
-      unfolding Holds free
-      enters t l r none j x h = holds-start t (l ++ r) j x (in-right l r t j x h)
-      enters t l r (some s) j x h = inr (in-right l r (s .ends) j x h)
-
-      Next : ℕ → List Job → Option (Sent Job) → List Job → Job → ℕ → Type 0
-      Next t l k r j x = ((x ≡ suc t) × List·Memᴰ j (ended (suc t) k)) ⊎ Holds (start cost (suc t) (l ++ r) (still (suc t) k) .line) (start cost (suc t) (l ++ r) (still (suc t) k) .link) j x
-
-      stays : (t : ℕ) (l : List Job) (k : Option (Sent Job)) (r : List Job) (j : Job) (x : ℕ) → Inv no-q t l k → Holds l k j x → Next t l k r j x
-      unfolding Holds Inv Next
-      stays t l none r j x i h = absurd h
-      stays t l (some s) r j x i h = by-leb₂ (s .ends) (suc t)
-          (λ (o : List Job) (k : Option (Sent Job)). ((x ≡ suc t) × List·Memᴰ j o) ⊎ Holds (start cost (suc t) (l ++ r) k .line) (start cost (suc t) (l ++ r) k .link) j x)
-          (λ m. ⊎-elim
-          (λ g. inl (omega arith, List·Memᴰ·head (sym (g .0))))
-          (λ g. inr (holds-start (suc t) (l ++ r) j x (in-left l r (suc t) j x (subst (λ (n : ℕ). In n l j x) (omega arith) g))))
-          h)
-          (λ m. ⊎-elim (λ g. inr (inl g)) (λ g. inr (inr (in-left l r (s .ends) j x g))) h)
-
-      in-later : (l : List Job) (n : ℕ) (j : Job) (x : ℕ) → In n l j x → n ≤ x
-      unfolding In
-      in-later [] n j x h = absurd h
-      in-later (i ∷ l) n j x (inl h) = omega arith
-      in-later (i ∷ l) n j x (inr h) = omega (arith, in-later l (n + cost i) j x h)
-
-      holds-later : (t : ℕ) (l : List Job) (k : Option (Sent Job)) (j : Job) (x : ℕ) → Inv no-q t l k → Holds l k j x → t < x
-      unfolding Holds Inv
-      holds-later t l none j x i h = absurd h
-      holds-later t l (some s) j x i (inl h) = omega arith
-      holds-later t l (some s) j x i (inr h) = omega (arith, in-later l (s .ends) j x h)
-
-      inv-none : (t : ℕ) → Inv no-q t (line (suc t)) (link (suc t))
-      inv-none = inv no-q (λ u. sched-no-q (free u (still u (link u)) + works (line u)) (ins u) (pos u))
-
-      goes : (n t : ℕ) (j : Job) (x : ℕ) → x ≤ t + n → Holds (line (suc t)) (link (suc t)) j x → List·Memᴰ j (fifo-out cost ins x)
-      unfolding fifo-out fifo Next
-      goes zero t j x b h = absurd (omega (arith, holds-later t (line (suc t)) (link (suc t)) j x (inv-none t) h))
-      goes (suc n) t j x b h = ⊎-elim
-          (λ g. subst (λ (u : ℕ). List·Memᴰ j (fifo-out cost ins u)) (sym (g .0)) (g .1))
-          (λ g. goes n (suc t) j x (omega arith) g)
-          (stays t (line (suc t)) (link (suc t)) (ins (suc t)) j x (inv-none t) h)
-
-      pub forward : (t : ℕ) (j : Job) → List·Memᴰ j (ins t) → Ends (λ n. List·Memᴰ j (fifo-out cost ins n)) (t + cost j) (t + f)
-      unfolding fifo e
-      forward t j m =
-          let h = in-new (ins t) (free t (still t (link t)) + works (line t)) j m in
-          record {
-            at = h .at;
-            is = goes (h .at) t j (h .at) (omega arith) (enters t (line t) (ins t) (still t (link t)) j (h .at) (h .is));
-            least = omega (arith, h .least, late t);
-            most = omega (arith, h .most, e-bound t, weigh-append cost (line t) (ins t));
-          }
-
-    -- ---- nothing is made or lost: by any weight, what has left and what is there is what has come
-    module _ (w : Job → ℕ) where
-      held : Option (Sent Job) → ℕ
-      held none = zero
-      held (some s) = w (s .job)
-
-      held-start : (t : ℕ) (l : List Job) (k : Option (Sent Job)) → held (start cost t l k .link) + weigh w (start cost t l k .line) ≡ held k + weigh w l
-      unfolding held total
-      held-start t [] none = refl
-      held-start t (j ∷ l) none = omega arith
-      held-start t l (some s) = refl
-
-      held-ends : (t : ℕ) (k : Option (Sent Job)) → weigh w (ended t k) + held (still t k) ≡ held k
-      unfolding held total
-      held-ends t none = refl
-      held-ends t (some s) = by-leb₂ (s .ends) t (λ (o : List Job) (k : Option (Sent Job)). weigh w o + held k ≡ w (s .job)) (λ m. omega arith) (λ m. omega arith)
-
-      kept : (t : ℕ) → upto (λ u. weigh w (fifo-out cost ins u)) t + (held (link t) + weigh w (line t)) ≡ upto (λ u. weigh w (ins u)) t
-      unfolding upto fifo fifo-out held total
-      kept zero = refl
-      kept (suc t) = omega (arith, kept t, held-start t (line t ++ ins t) (still t (link t)), held-ends t (link t), weigh-append w (line t) (ins t))
-
-      pub weighed : (t : ℕ) → upto (λ u. weigh w (fifo-out cost ins u)) t ≤ upto (λ u. weigh w (ins u)) t
-      weighed t = omega (arith, kept t)
+      -- a port as a stage
+      pub fifo-delay : (lo : ℕ) → ((t : ℕ) (j : Job) → List·Memᴰ j (ins t) → lo ≤ cost j) → Delay ins (fifo-out cost ins) lo f
+      fifo-delay lo h = record {
+        forward = λ t j m.
+            let p = plan-has (free cost t (still t (link t)) + weigh cost (line t)) (ins t) j m in
+            let x : Sent Job = record { job = j; ends = p .0 } in
+            let w = new t x (p .1) in
+            let i : List·Memᴰ x (to-send t) = rw (to-send-is t) (Memᴰ·append-right (left t) (p .1)) in
+            record { at = p .0; there = goes (p .0) t x (omega arith) i; least = omega (arith, w .1, h t j m); most = w .2 };
+        backward = λ t j m.
+            let w = back t j m in
+            record { at = w .0; there = w .1 .0; least = omega (arith, w .1 .1, h (w .0) j (w .1 .0)); most = w .1 .2 };
+        weighed = weighed;
+      }

@@ -1,24 +1,21 @@
 -- What a VL does to what arrives: on a VL of n sub-links a packet is handed over as if its sub-link had a server of its own that spends n gaps on each packet, and hands it over one gap before the end.
 -- Assumes nothing.
 use Prim.Native.Nat.{ℕ, zero, suc, _+_, _*_, _≤_, _<_, max}
-use mathlib.Core.List.{List, [], _∷_, _++_, List·Memᴰ, List·Memᴰ·head, List·Memᴰ·tail}
-use mathlib.Core.Logic.{_⊎_, inl, inr, ⊎-elim, dite}
+use mathlib.Core.List.{List, [], _∷_, _++_, List·Memᴰ, List·Memᴰ·head, List·Memᴰ·tail, List·Memᴰ·not-nil, List·Memᴰ·append-cases}
+use mathlib.Core.Logic.{_⊎_, ⊎-elim, dite}
 use mathlib.Core.Option.{Option, none, some}
 use mathlib.Core.Path.{_≡_, refl, sym, ap, _∙_, subst}
 use native.Mathlib.Decide.{decLe}
-use native.Mathlib.Nat.{le-refl, add-zero, mul-le-mul-right, le-of-eq}
+use native.Mathlib.Nat.{add-zero, mul-le-mul-right, le-of-eq}
 use native.Mathlib.Omega.{arith}
 use lib.ListN.{length, length-append}
 use Rattle.machine.specs.Turn.{Lane, add, serve}
 use Rattle.machine.specs.Queue.{Queue, Handed}
 use Rattle.machine.proofs.Stage.Parts.{queue-tick, queue, handed}
-use Rattle.machine.proofs.Lists.Turns.{Empty, Each, each-append, each-right, each-map, each-empty, each-add, length-add, Within, Named, named-add, within-add, within-new, took-or-left, named-took}
-use Rattle.machine.proofs.Stage.QueueSteps.{Gave, Kept, cases}
-
-pub record Gone {X : Type 0} (h : ℕ → Option X) (x : X) (t : ℕ) : Type 0 where
-  pub at : ℕ
-  pub is : h at ≡ some x
-  pub later : t ≤ at
+use Rattle.machine.proofs.Lists.Turns.{Empty, Each, each-append, each-right, each-map, each-empty, each-add, length-add}
+use Rattle.machine.proofs.Lists.Lanes.{listed, flat, names, brought, is-brought}
+use Rattle.machine.proofs.Stage.Moves.{leaves}
+use Rattle.machine.proofs.Stage.QueueSteps.{Gave, Kept, cases, is-listed, lanes, stay, moves, none-first}
 
 -- `by x` is the tick by which the virtual server is to be done with x, `from x` one before which x is not handed over
 module _ {X : Type 0} (n gap : ℕ) (by from : X → ℕ) where
@@ -216,48 +213,24 @@ module _ {X : Type 0} (n gap : ℕ) (by from : X → ℕ) where
         due-mem (y ∷ l) e m x h (List·Memᴰ·head p) = omega (arith, h .0, ap by p)
         due-mem (y ∷ l) e m x h (List·Memᴰ·tail i) = omega (arith, due-mem l e (m + nb) x (h .1) i)
 
-        within-due : (t m : ℕ) (x : X) (ls : List (Lane X)) → Each (R t m) 0 ls → length ls ≤ n → Within x ls → m + gap ≤ by x
+        within-due : (t m : ℕ) (x : X) (ls : List (Lane X)) → Each (R t m) 0 ls → length ls ≤ n → List·Memᴰ x (flat ls) → m + gap ≤ by x
         unfolding R
-        within-due t m x [] h k w = absurd w
-        within-due t m x (l ∷ ls) h k (inl w) = omega (arith, due-mem (l .line) ((length ls + 0) * gap) m x (h .0 .due) w, mul-le-mul-right gap k)
-        within-due t m x (l ∷ ls) h k (inr w) = within-due t m x ls (h .1) (omega arith) w
+        within-due t m x [] h k w = absurd (List·Memᴰ·not-nil w)
+        within-due t m x (l ∷ ls) h k w = ⊎-elim
+            (λ i. omega (arith, due-mem (l .line) ((length ls + 0) * gap) m x (h .0 .due) i, mul-le-mul-right gap k))
+            (within-due t m x ls (h .1) (omega arith))
+            (List·Memᴰ·append-cases (l .line) w)
 
-        -- a tick hands x over, or keeps it; and keeps the lanes' names
-        stays : (t : ℕ) (s : Queue X) (x : X) → Within x (add (new t) (s .lanes)) → (queue-tick gap t (new t) s .got ≡ some x) ⊎ Within x (queue-tick gap t (new t) s .queue .lanes)
-        stays t s x w = ⊎-elim
-            (λ g. ⊎-elim
-            (λ e. inl (ap (λ (h : Handed X). h .got) (g .is) ∙ sym (g .took .got) ∙ e))
-            (λ e. inr (subst (λ (h : Handed X). Within x (h .queue .lanes)) (sym (g .is)) e))
-            (took-or-left x (add (new t) (s .lanes)) (serve [] (add (new t) (s .lanes))) (g .took) w))
-            (λ k. inr (subst (λ (h : Handed X). Within x (h .queue .lanes)) (sym (k .is)) w))
-            (cases gap t (new t) s)
-
-        names : (i t : ℕ) (s : Queue X) → Named i (s .lanes) → Named i (queue-tick gap t (new t) s .queue .lanes)
-        names i t s w =
-            let w′ = named-add i (new t) (s .lanes) w in
-            ⊎-elim
-            (λ g. subst (λ (h : Handed X). Named i (h .queue .lanes)) (sym (g .is)) (named-took i (add (new t) (s .lanes)) (serve [] (add (new t) (s .lanes))) (g .took) w′))
-            (λ k. subst (λ (h : Handed X). Named i (h .queue .lanes)) (sym (k .is)) w′)
-            (cases gap t (new t) s)
-
-        named : (i : ℕ) → Named i (s₀ .lanes) → (t : ℕ) → Named i (queue gap s₀ new t .lanes)
-        unfolding queue
-        named i h zero = h
-        named i h (suc t) = names i t (queue gap s₀ new t) (named i h t)
-
-        pub still-due : (t : ℕ) (x : X) → Within x (queue gap s₀ new (suc t) .lanes) → t + gap ≤ by x
+        pub still-due : (t : ℕ) (x : X) → List·Memᴰ x (flat (queue gap s₀ new (suc t) .lanes)) → t + gap ≤ by x
         unfolding queue
         still-due t x u =
             let d = within-due t (max (queue gap s₀ new (suc t) .next) t) x (queue gap s₀ new (suc t) .lanes) (run t .ok .good) (le-of-eq (run t .ok .size)) u in
             omega arith
 
-        goes : (k t : ℕ) (x : X) → by x ≤ t + k → Within x (add (new t) (queue gap s₀ new t .lanes)) → Gone (handed gap s₀ new) x t
-        unfolding queue handed
-        goes zero t x b w = ⊎-elim (λ e. record { at = t; is = e; later = le-refl t }) (λ u. absurd (omega (arith, still-due t x u))) (stays t (queue gap s₀ new t) x w)
-        goes (suc k) t x b w = ⊎-elim
-            (λ e. record { at = t; is = e; later = le-refl t })
-            (λ u. let g = goes k (suc t) x (omega arith) (within-add x (new (suc t)) (queue gap s₀ new (suc t) .lanes) u) in record { at = g .at; is = g .is; later = omega (arith, g .later) })
-            (stays t (queue gap s₀ new t) x w)
-
-        pub forward : (i : ℕ) → Named i (s₀ .lanes) → (t : ℕ) (x : X) → List·Memᴰ x (new t i) → Gone (handed gap s₀ new) x t
-        forward i h t x m = goes (by x) t x (omega arith) (within-new i (new t) x (queue gap s₀ new t .lanes) (named i h t) m)
+        pub forward : (i : ℕ) → List·Memᴰ i (names (s₀ .lanes)) → (t : ℕ) (x : X) → List·Memᴰ x (new t i) → (u : ℕ) × (handed gap s₀ new u ≡ some x)
+        unfolding queue
+        forward i h t x m =
+            let g = leaves (λ u. flat (lanes gap s₀ new u)) (brought new (lanes gap s₀ new) (stay gap s₀ new)) (λ u. listed (handed gap s₀ new u))
+            (none-first gap s₀ new empty₀) (moves gap s₀ new) x (by x) (λ u w. omega (arith, still-due u x w)) t
+            (is-brought new (lanes gap s₀ new) (stay gap s₀ new) t i x h m) in
+            (g .0, is-listed (handed gap s₀ new (g .0)) x (g .1))

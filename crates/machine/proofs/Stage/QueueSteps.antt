@@ -1,21 +1,25 @@
--- What a tick does to the queues of a VL: a packet is handed over, or all stays. So hand-overs are at least one gap apart, what is handed over was brought, and nothing is made or lost.
--- Assumes nothing.
+-- What a tick does to the queues of a VL: a packet is handed over, or all stays. So hand-overs are at least one gap apart, what is handed over was
+-- brought, and nothing is made or lost. Assumes nothing.
 use Prim.Native.Nat.{ℕ, zero, suc, _+_, _≤_, _<_, _/_}
-use mathlib.Core.List.{List, [], _∷_, _++_, List·Memᴰ}
+use mathlib.Core.List.{List, [], _++_, List·Memᴰ, List·Memᴰ·head, List·Memᴰ·not-nil, List·Memᴰ·eq-of-singleton}
+use mathlib.Core.List.{List·Permᴰ, List·Permᴰ·trans, Permᴰ·refl}
 use mathlib.Core.Logic.{inl, inr, _⊎_, ⊎-elim}
-use mathlib.Core.Option.{Option, none, some, Option·none-ne-some}
-use mathlib.Core.Path.{_≡_, refl, sym, ap, _∙_, subst}
+use mathlib.Core.Option.{Option, none, some}
+use mathlib.Core.Path.{_≡_, refl, sym, ap, _∙_}
 use native.Mathlib.Omega.{arith}
-use lib.ListN.{length, length-append}
-use Rattle.machine.specs.Sum.{span}
+use lib.ListN.{length}
+use Rattle.machine.specs.Sum.{span, weigh}
 use Rattle.machine.specs.Turn.{Lane, add, serve}
 use Rattle.machine.specs.Queue.{Queue, Handed, hand}
 use Rattle.machine.proofs.Lists.Cases.{by-leb}
-use Rattle.machine.proofs.Stage.Parts.{queue-tick, queue, handed}
-use Rattle.machine.proofs.Lists.Sums.{upto}
+use Rattle.machine.proofs.Lists.Sums.{upto, weigh-ones}
 use Rattle.machine.proofs.Lists.Spaced.{Spaced, spaced-count}
-use Rattle.machine.proofs.Lists.Turns.{Within, Empty, Took, turn, within-took, head-within, within-add-cases, not-within}
-use Rattle.machine.proofs.Lists.Lanes.{lane-sum, added, sum-took, sum-add, added-took, added-add}
+use Rattle.machine.proofs.Lists.Turns.{Empty, Took, turn}
+use Rattle.machine.proofs.Lists.Orders.{was-gathered}
+use Rattle.machine.proofs.Lists.Lanes.{listed, flat, names, flat-empty, flat-add, names-add, Turned, turned, brought, brought-weigh}
+use Rattle.machine.proofs.Stage.Parts.{queue-tick, queue, handed}
+use Rattle.machine.proofs.Stage.Moves.{kept, out-origin}
+use Rattle.machine.proofs.Stage.Moves as Moves
 
 module _ {X : Type 0} where
   -- the three things a tick can do
@@ -45,10 +49,30 @@ module _ {X : Type 0} where
       (turn (add new (s .lanes))))
       (λ r. inr (record { why = inl r; is = refl }))
 
+  hand-turned : (gap t next : ℕ) {all : List (Lane X)} (ls : List (Lane X)) (o : Option X) → Turned all (record { got = o; lanes = ls })
+      → Turned all (record { got = hand gap t next ls o .got; lanes = hand gap t next ls o .queue .lanes })
+  hand-turned gap t next ls none w = w
+  hand-turned gap t next ls (some x) w = w
+
+  pub queue-turned : (gap t : ℕ) (new : ℕ → List X) (s : Queue X)
+      → Turned (add new (s .lanes)) (record { got = queue-tick gap t new s .got; lanes = queue-tick gap t new s .queue .lanes })
+  queue-turned gap t new s =
+      let all = add new (s .lanes) in
+      by-leb (s .next) t (λ (h : Handed X). Turned all (record { got = h .got; lanes = h .queue .lanes }))
+      (λ r. hand-turned gap t (s .next) (serve [] all .lanes) (serve [] all .got) (turned all))
+      (λ r. record { same = Permᴰ·refl (flat all); names-same = Permᴰ·refl (names all) })
+
 -- 1 if there is one
 abbrev pub tally-of : {X : Type 0} → Option X → ℕ
-tally-of none = 0
-tally-of (some x) = 1
+tally-of o = length (listed o)
+
+pub given : {X : Type 0} (o : Option X) → 0 < tally-of o → (x : X) × (o ≡ some x)
+given none h = absurd (omega arith)
+given (some x) h = (x, refl)
+
+pub is-listed : {X : Type 0} (o : Option X) (x : X) → List·Memᴰ x (listed o) → o ≡ some x
+is-listed none x m = absurd (List·Memᴰ·not-nil m)
+is-listed (some y) x m = ap some (sym (List·Memᴰ·eq-of-singleton m))
 
 -- ---- hand-overs are at least one gap apart, and what is handed over was brought
 module _ {X : Type 0} (gap : ℕ) (s₀ : Queue X) (new : ℕ → ℕ → List X) (next₀ : s₀ .next ≡ zero) where
@@ -63,55 +87,38 @@ module _ {X : Type 0} (gap : ℕ) (s₀ : Queue X) (new : ℕ → ℕ → List X
   unfolding queue
   hand-count pos = spaced-count gap (λ u. tally-of (handed gap s₀ new u)) (λ u. queue gap s₀ new u .next) pos (omega arith) spaced
 
-  -- what has been handed over, with what is there, is what has come
-  queue-step : (g : List X → ℕ) → ((l r : List X) → g (l ++ r) ≡ g l + g r) → ((x : X) → g (x ∷ []) ≡ 1) → (t : ℕ)
-      → tally-of (handed gap s₀ new t) + lane-sum g (queue gap s₀ new (suc t) .lanes) ≡ lane-sum g (add (new t) (queue gap s₀ new t .lanes))
-  unfolding queue handed
-  queue-step g p one t = ⊎-elim
-      (λ k. subst (λ (h : Handed X). tally-of (h .got) + lane-sum g (h .queue .lanes) ≡ lane-sum g (add (new t) (queue gap s₀ new t .lanes))) (sym (k .is))
-      (omega (arith, sum-took g p (add (new t) (queue gap s₀ new t .lanes)) (serve [] (add (new t) (queue gap s₀ new t .lanes))) (k .took), one (k .took .head))))
-      (λ k. subst (λ (h : Handed X). tally-of (h .got) + lane-sum g (h .queue .lanes) ≡ lane-sum g (add (new t) (queue gap s₀ new t .lanes))) (sym (k .is)) (omega arith))
-      (cases gap t (new t) (queue gap s₀ new t))
+module _ {X : Type 0} (gap : ℕ) (s₀ : Queue X) (new : ℕ → ℕ → List X) where
+  abbrev pub lanes : ℕ → List (Lane X)
+  lanes t = queue gap s₀ new t .lanes
 
-  queue-names : (g : List X → ℕ) (f : ℕ → List X) (t : ℕ) → added g f (queue gap s₀ new t .lanes) ≡ added g f (s₀ .lanes)
+  pub stay : (t : ℕ) → List·Permᴰ (names (lanes t)) (names (lanes (suc t)))
   unfolding queue
-  queue-names g f zero = refl
-  queue-names g f (suc t) = ⊎-elim
-      (λ k. subst (λ (h : Handed X). added g f (h .queue .lanes) ≡ added g f (s₀ .lanes)) (sym (k .is))
-      (added-took g f (add (new t) (queue gap s₀ new t .lanes)) (serve [] (add (new t) (queue gap s₀ new t .lanes))) (k .took) ∙ added-add g f (new t) (queue gap s₀ new t .lanes) ∙ queue-names g f t))
-      (λ k. subst (λ (h : Handed X). added g f (h .queue .lanes) ≡ added g f (s₀ .lanes)) (sym (k .is)) (added-add g f (new t) (queue gap s₀ new t .lanes) ∙ queue-names g f t))
-      (cases gap t (new t) (queue gap s₀ new t))
+  stay t = rw (names-add (new t) (lanes t)) at (queue-turned gap t (new t) (queue gap s₀ new t) .names-same)
 
-  pub queue-kept : lane-sum length (s₀ .lanes) ≡ zero → (t : ℕ) → upto (λ u. tally-of (handed gap s₀ new u)) t + lane-sum length (queue gap s₀ new t .lanes) ≡ upto (λ u. added length (new u) (s₀ .lanes)) t
-  unfolding upto queue
-  queue-kept z zero = omega (arith, z)
-  queue-kept z (suc t) = omega (arith, queue-kept z t, queue-step length length-append (λ x. refl) t, sum-add length length-append (new t) (queue gap s₀ new t .lanes), queue-names length (new t) t)
+  pub moves : (t : ℕ) → List·Permᴰ (flat (lanes t) ++ brought new lanes stay t) (listed (handed gap s₀ new t) ++ flat (lanes (suc t)))
+  unfolding queue handed
+  moves t = List·Permᴰ·trans (flat-add (new t) (lanes t)) (queue-turned gap t (new t) (queue gap s₀ new t) .same)
 
-  module _ (empty₀ : Empty (s₀ .lanes)) (O : X → Type 0) (added : (t i : ℕ) (x : X) → List·Memᴰ x (new t i) → O x) where
-    from-new : (t : ℕ) (x : X) → ((y : X) → Within y (queue gap s₀ new t .lanes) → O y) → Within x (add (new t) (queue gap s₀ new t .lanes)) → O x
-    from-new t x h w = ⊎-elim (λ u. h x u) (λ u. added t (u .0) x (u .1)) (within-add-cases x (new t) (queue gap s₀ new t .lanes) w)
-
-    pub origin : (t : ℕ) (x : X) → Within x (queue gap s₀ new t .lanes) → O x
+  module _ (empty₀ : Empty (s₀ .lanes)) where
+    pub none-first : flat (lanes zero) ≡ []
     unfolding queue
-    origin zero x w = absurd (not-within x (s₀ .lanes) empty₀ w)
-    origin (suc t) x w = ⊎-elim
-        (λ g. from-new t x (origin t) (within-took x (add (new t) (queue gap s₀ new t .lanes)) (serve [] (add (new t) (queue gap s₀ new t .lanes))) (g .took)
-        (subst (λ (h : Handed X). Within x (h .queue .lanes)) (g .is) w)))
-        (λ k. from-new t x (origin t) (subst (λ (h : Handed X). Within x (h .queue .lanes)) (k .is) w))
-        (cases gap t (new t) (queue gap s₀ new t))
+    none-first = flat-empty (s₀ .lanes) empty₀
 
-    pub hand-origin : (t : ℕ) (x : X) → handed gap s₀ new t ≡ some x → O x
-    unfolding handed
-    hand-origin t x e = ⊎-elim
-        (λ g.
-        let e′ : some (g .took .head) ≡ some x = ap (λ (h : Handed X). h .got) (sym (g .is)) ∙ e in
-        let e″ : g .took .head ≡ x = cc in
-        from-new t x (origin t) (subst (λ (y : X). Within y (add (new t) (queue gap s₀ new t .lanes))) e″ (head-within (add (new t) (queue gap s₀ new t .lanes)) (serve [] (add (new t) (queue gap s₀ new t .lanes))) (g .took))))
-        (λ k.
-        let e′ : none ≡ some x = ap (λ (h : Handed X). h .got) (sym (k .is)) ∙ e in
-        absurd (Option·none-ne-some x e′))
-        (cases gap t (new t) (queue gap s₀ new t))
+    -- what has been handed over, with what is there, is what has come
+    pub queue-kept : (t : ℕ) → upto (λ u. tally-of (handed gap s₀ new u)) t + length (flat (lanes t))
+        ≡ upto (λ u. weigh (λ i. length (new u i)) (names (s₀ .lanes))) t
+    unfolding queue
+    queue-kept t = simp (weigh-ones) at (simp (brought-weigh new lanes stay (λ x. 1)) at
+        (kept (λ u. flat (lanes u)) (brought new lanes stay) (λ u. listed (handed gap s₀ new u)) none-first moves (λ x. 1) t))
 
-pub given : {X : Type 0} (o : Option X) → 0 < tally-of o → (x : X) × (o ≡ some x)
-given none h = absurd (omega arith)
-given (some x) h = (x, refl)
+    module _ (O : X → Type 0) (came : (t i : ℕ) (x : X) → List·Memᴰ x (new t i) → O x) where
+      new-is : (t : ℕ) (x : X) → List·Memᴰ x (brought new lanes stay t) → O x
+      new-is t x m = let w = was-gathered (new t) (names (lanes t)) x m in came t (w .0) x (w .2)
+
+      pub origin : (t : ℕ) (x : X) → List·Memᴰ x (flat (lanes t)) → O x
+      origin = Moves.origin (λ u. flat (lanes u)) (brought new lanes stay) (λ u. listed (handed gap s₀ new u)) none-first moves
+          (λ t x. O x) new-is (λ t x o. o)
+
+      pub hand-origin : (t : ℕ) (x : X) → handed gap s₀ new t ≡ some x → O x
+      hand-origin t x e = out-origin (λ u. flat (lanes u)) (brought new lanes stay) (λ u. listed (handed gap s₀ new u)) none-first moves
+          (λ u y. O y) new-is (λ u y o. o) t x (rw e (List·Memᴰ·head refl))

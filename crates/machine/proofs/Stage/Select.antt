@@ -17,6 +17,7 @@ use Rattle.machine.specs.Sum.{weigh, count, tally}
 use Rattle.machine.specs.Lists.{chosen, gather}
 use Rattle.machine.specs.Messages.{Frame, copy, ofHop}
 use Rattle.machine.proofs.Lists.Cases.{by-test, by-eqb}
+use Rattle.machine.proofs.Lists.Orders.{gather-append}
 use Rattle.machine.proofs.Lists.Sums.{weigh-append}
 
 -- one more number at the end, if it passes
@@ -79,11 +80,6 @@ module _ {X Y : Type 0} (p : X → Bool) (f : X → Y) where
       go : chosen p f (a ++ b) ≡ chosen p f a ++ chosen p f b → (c : Bool) → cond c (f x ∷ []) [] ++ chosen p f (a ++ b) ≡ (cond c (f x ∷ []) [] ++ chosen p f a) ++ chosen p f b
       go e true = ap (λ (l : List Y). f x ∷ l) e
       go e false = e
-
-module _ {X : Type 0} where
-  gather-append : (f : ℕ → List X) (a b : List ℕ) → gather f (a ++ b) ≡ gather f a ++ gather f b
-  gather-append f [] b = refl
-  gather-append f (n ∷ a) b = ap (λ (l : List X). f n ++ l) (gather-append f a b) ∙ sym (mathlib.Core.List.append-assoc (f n) (gather f a) (gather f b))
 
 -- ---- the copies of one hop among those of all hops of a port
 same-hop : (h i : ℕ) → i ≡ h → (l : List Frame) → ofHop h (chosen (λ f. true) (copy i) l) ≡ l
@@ -167,10 +163,6 @@ chosen-all p [] h = refl
 chosen-all {X} p (x ∷ l) h = by-test (p x) (λ (o : List X). o ++ chosen p (λ z. z) l ≡ x ∷ l)
     (λ k. ap (λ (m : List X). x ∷ m) (chosen-all p l (λ y m. h y (List·Memᴰ·tail m)))) (λ k. absurd (k (h x (List·Memᴰ·head refl))))
 
-pub is-gathered : {X : Type 0} (f : ℕ → List X) (ns : List ℕ) (i : ℕ) (x : X) → List·Memᴰ i ns → List·Memᴰ x (f i) → List·Memᴰ x (gather f ns)
-is-gathered f (n ∷ ns) i x (List·Memᴰ·head e) k = Memᴰ·append-left (gather f ns) (subst (λ (m : ℕ). List·Memᴰ x (f m)) e k)
-is-gathered f (n ∷ ns) i x (List·Memᴰ·tail m) k = Memᴰ·append-right (f n) (is-gathered f ns i x m k)
-
 -- those that pass a test behind those that do not
 abbrev pub behind : {X : Type 0} → (X → Bool) → List X → List X
 behind q l = chosen (λ x. not (q x)) (λ x. x) l ++ chosen q (λ x. x) l
@@ -193,10 +185,3 @@ pub split-last : {X : Type 0} (l : List X) → 0 < length l → Ended l
 split-last [] h = absurd (omega arith)
 split-last (x ∷ []) h = record { front = []; last = x; is = refl }
 split-last {X} (x ∷ (y ∷ l)) h = let w = split-last (y ∷ l) (omega arith) in record { front = x ∷ w .front; last = w .last; is = ap (λ (z : List X). x ∷ z) (w .is) }
-
-pub was-gathered : {X : Type 0} (f : ℕ → List X) (ns : List ℕ) (x : X) → List·Memᴰ x (gather f ns) → (i : ℕ) × List·Memᴰ i ns × List·Memᴰ x (f i)
-was-gathered f [] x m = absurd (List·Memᴰ·not-nil m)
-was-gathered f (n ∷ ns) x m = ⊎-elim
-    (λ k. (n, List·Memᴰ·head refl, k))
-    (λ k. let w = was-gathered f ns x k in (w .0, List·Memᴰ·tail (w .1), w .2))
-    (List·Memᴰ·append-cases (f n) m)

@@ -15,6 +15,7 @@ use Rattle.machine.specs.Sum.{span, count, tally, weigh}
 use Rattle.machine.specs.Lists.{chosen, gather}
 use Rattle.machine.proofs.Lists.Cases.{by-eqb, eq→eqb, both}
 use Rattle.machine.proofs.Lists.Sums.{span-mono, span-add, span-zeros, upto, upto-same, upto-add, upto-zeros, weigh-append}
+use Rattle.machine.proofs.Lists.Orders.{weigh-gather}
 use Rattle.machine.proofs.Stage.Envelope.{count-none, count-any}
 use Rattle.machine.proofs.Stage.Select.{chosen-any, was-chosen, was-passing, weigh-one}
 
@@ -117,11 +118,6 @@ critical-rate p w n x d ρ pos apart =
 
 -- ---- sums
 module _ {X : Type 0} where
-  weigh-gather : (w : X → ℕ) (f : ℕ → List X) (ns : List ℕ) → weigh w (gather f ns) ≡ weigh (λ s. weigh w (f s)) ns
-  unfolding total
-  weigh-gather w f [] = refl
-  weigh-gather w f (s ∷ ns) = omega (arith, weigh-append w (f s) (gather f ns), weigh-gather w f ns)
-
   -- a thing that comes at tick a is there once by tick t
   then-there : (w : X → ℕ) (m : X) (a t : ℕ) → a ≡ t → weigh w (cond (eqb a t) (m ∷ []) []) ≡ w m
   unfolding total

@@ -19,9 +19,10 @@ use Rattle.machine.specs.Messages.{Release, Message, Frame}
 use Rattle.machine.specs.Permitted.{streamFlow, Sized, releasedBy}
 use Rattle.machine.specs.Sound.{Sound}
 use Rattle.machine.specs.Runs.{Planned, RunsAs}
+use Rattle.machine.proofs.Lists.Orders.{was-gathered, is-gathered}
 use Rattle.machine.proofs.Lists.Cases.{eq→eqb, by-test, both}
 use Rattle.machine.proofs.Stage.Flows.{most-pos}
-use Rattle.machine.proofs.Stage.Select.{was-chosen, is-chosen, is-passing, was-passing, was-gathered, is-gathered, behind, behind-perm}
+use Rattle.machine.proofs.Stage.Select.{was-chosen, is-chosen, is-passing, was-passing, behind, behind-perm}
 use Rattle.machine.proofs.Network.Windows.{queueStation}
 use Rattle.machine.proofs.Network.Auto.{runs-so, reached-in-order}
 use Rattle.machine.proofs.Wait.Critical.{pattern-rate}

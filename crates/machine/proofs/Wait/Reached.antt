@@ -10,11 +10,12 @@ use native.Mathlib.Decide.{decLt}
 use native.Mathlib.Omega.{arith}
 use lib.Dec.{T, eqb→eq}
 use lib.ListN.{length, length-append}
-use Rattle.base.specs.Tabulate.{passing}
+use Rattle.base.specs.Tabulate.{passing, total}
 use Rattle.frame.specs.Packets.{packetLines}
 use Rattle.network.specs.Network.{Network, vlAt, streamAt}
+use Rattle.machine.specs.Sum.{weigh}
 use Rattle.machine.specs.Lists.{chosen}
-use Rattle.machine.specs.Turn.{lanesOf, fromTurn}
+use Rattle.machine.specs.Turn.{Lane, lanesOf, fromTurn}
 use Rattle.machine.specs.Queue.{Queue}
 use Rattle.machine.specs.Messages.{Release, Message, Packet, number, vlOf, packetsIn, toLane}
 use Rattle.machine.specs.Machine.{Run, hands}
@@ -24,7 +25,8 @@ use Rattle.machine.specs.Runs.{Reaches}
 use Rattle.machine.proofs.Lists.Cases.{not-both, eq→eqb, by-test}
 use Rattle.machine.proofs.Stage.Parts.{queue, handed}
 use Rattle.machine.proofs.Lists.Sums.{upto, upto-same, grows, crosses}
-use Rattle.machine.proofs.Lists.Lanes.{lane-sum, added}
+use Rattle.machine.proofs.Lists.Orders.{none-in}
+use Rattle.machine.proofs.Lists.Lanes.{flat, names}
 use Rattle.machine.proofs.Stage.QueueSteps.{given}
 use Rattle.machine.proofs.Stage.Select.{was-chosen, behind, Ended, split-last}
 use Rattle.machine.proofs.Network.Told.{arrival, message-of, was-message, packets-pos, length-lines, length-number, number-last}
@@ -170,11 +172,7 @@ module _ (net : Network) (sound : Sound net) (win : Windows net) (aim : Aim net)
       )
 
   no-more : (t : ℕ) → end < t → news net run v t 0 ≡ []
-  no-more t h = ap (toLane net v 0) (empty (ch net run t .reach) (λ m i. omega (arith, reach-time net sound win aim t m i .1)))
-    where
-      empty : (l : List Message) → ((m : Message) → List·Memᴰ m l → ⊥) → l ≡ []
-      empty [] k = refl
-      empty (m ∷ l) k = absurd (k m (List·Memᴰ·head refl))
+  no-more t h = ap (toLane net v 0) (none-in (ch net run t .reach) (λ m i. omega (arith, reach-time net sound win aim t m i .1)))
 
   -- ---- one lane
   abbrev first : Queue Packet
@@ -196,13 +194,13 @@ module _ (net : Network) (sound : Sound net) (win : Windows net) (aim : Aim net)
       (filled net sound aim .first-sub-is)
       ∙ ap (λ (z : ℕ). lanesOf (fromTurn 0 (passing (λ i. true) z))) one
 
-  added-is : (u : ℕ) → added length (news net run v u) (first .lanes) ≡ comes u
-  unfolding added
-  added-is u = ap (added length (news net run v u)) one-lane ∙ (omega arith)
+  comes-is : (u : ℕ) → weigh (λ i. length (news net run v u i)) (names (first .lanes)) ≡ comes u
+  unfolding total
+  comes-is u = rw one-lane (omega arith)
 
-  conserved-one : (t : ℕ) → upto hits t + lane-sum length (queue gap first (news net run v) t .lanes) ≡ upto comes t
-  conserved-one t =
-      conserved net sound win aim t ∙ upto-same (λ u. added length (news net run v u) (first .lanes)) comes added-is t
+  conserved-one : (t : ℕ) → upto hits t + length (flat (queue gap first (news net run v) t .lanes)) ≡ upto comes t
+  conserved-one t = conserved net sound win aim t
+      ∙ upto-same (λ u. weigh (λ i. length (news net run v u i)) (names (first .lanes))) comes comes-is t
 
   no-others : (k : ℕ) → upto comes (suc end + k) ≡ all
   unfolding upto
@@ -212,7 +210,7 @@ module _ (net : Network) (sound : Sound net) (win : Windows net) (aim : Aim net)
       ap (upto comes) e ∙ (omega (arith, no-others k, ap length (no-more (suc end + k) (omega arith))))
 
   pub reached : Reaches net s₁ (queueStation net (streamAt net s₁ .vl) (streamAt net s₁ .sublink) - vlAt net (streamAt net s₁ .vl) .gap)
-  unfolding upto lane-sum handed
+  unfolding upto handed
   reached =
       let some-come = P-pos net sound win aim in
       let u = crosses hits all (suc (far net sound win aim)) some-come (all-gone net sound win aim) in
@@ -223,7 +221,7 @@ module _ (net : Network) (sound : Sound net) (win : Windows net) (aim : Aim net)
       let whole : upto comes (suc t) ≡ all = let e : suc end + (t - end) ≡ suc t = omega arith in ap (upto comes) (sym e) ∙ no-others (t - end) in
       let x = given (handed gap first (news net run v) t) (omega (arith, u .1, u .2)) in
       let is : x .0 ≡ x₁ = last-out gap first (news net run v) one-lane x₁ end (news-end .0) (news-end .1) no-more t (x .0) after-last (x .1)
-      (λ l e. omega (arith, conserved-one (suc t), ap (lane-sum length) e, u .2, whole)) in
+      (λ l e. omega (arith, conserved-one (suc t), ap (λ (ls : List (Lane Packet)). length (flat ls)) e, ap length (append-nil l), u .2, whole)) in
       let q = bounds net sound run ok v win hv t x₁ (x .1 ∙ ap (λ (z : Packet). some z) is) in
       let sub : streamAt net s₁ .sublink ≡ 0 = omega (arith, sound .references .stream-sub-link s₁ on, ap (λ (z : ℕ). vlAt net z .sublinks) of, one) in
       let fs : queueStation net v (streamAt net (victim .stream) .sublink) ≡ queueStation net v 0 =

@@ -21,14 +21,14 @@ use Rattle.machine.specs.Messages.{Release, Message, Packet, packetsIn}
 use Rattle.machine.specs.Machine.{Run, released, start}
 use Rattle.machine.specs.Permitted.{Permitted}
 use Rattle.machine.specs.Sound.{Sound}
+use Rattle.machine.proofs.Lists.Orders.{perm-weigh, none-in}
 use Rattle.machine.proofs.Lists.Cases.{eq→eqb, both}
 use Rattle.machine.proofs.Stage.Parts.{queue, handed, lands}
-use Rattle.machine.proofs.Lists.Sums.{upto, upto-same, upto-mono, grows, weigh-part}
+use Rattle.machine.proofs.Lists.Sums.{upto, upto-same, upto-mono, grows, weigh-part, weigh-none, upto-none}
 use Rattle.machine.proofs.Stage.Flows.{most-pos, brought-is}
-use Rattle.machine.proofs.Lists.Turns.{Within, not-within}
-use Rattle.machine.proofs.Lists.Lanes.{lane-sum, added, lane-part, nobody, none-added}
+use Rattle.machine.proofs.Lists.Lanes.{flat, names}
 use Rattle.machine.proofs.Stage.QueueSteps.{tally-of, hand-count, origin, queue-kept}
-use Rattle.machine.proofs.Stage.Delay.{perm-weigh, all-landed}
+use Rattle.machine.proofs.Stage.Delay.{all-landed}
 use Rattle.machine.proofs.Stage.Envelope.{upto-split}
 use Rattle.machine.proofs.Stage.Select.{is-passing, was-passing, chosen-all}
 use Rattle.machine.proofs.Network.Told.{arrival, was-message, weigh-messages, packets-pos, length-lines, length-number}
@@ -186,25 +186,22 @@ module _ (net : Network) (sound : Sound net) (win : Windows net) (aim : Aim net)
   abbrev pub c : ℕ → ℕ
   c t = tally-of (handed (vlAt net v .gap) s₀ (news net r v) t)
 
-  start-empty : lane-sum length (s₀ .lanes) ≡ zero
-  start-empty = nobody (s₀ .lanes) (λ x w. not-within x (s₀ .lanes) (empty₀ net sound r per v) w)
+  -- what a tick brings to the lanes
+  abbrev pub comes : ℕ → ℕ
+  comes u = weigh (λ i. length (news net r v u i)) (names (s₀ .lanes))
 
-  pub conserved : (t : ℕ) → upto c t + lane-sum length (queue (vlAt net v .gap) s₀ (news net r v) t .lanes) ≡ upto (λ u. added length (news net r v u) (s₀ .lanes)) t
-  conserved = queue-kept (vlAt net v .gap) s₀ (news net r v) refl start-empty
+  pub conserved : (t : ℕ) → upto c t + length (flat (queue (vlAt net v .gap) s₀ (news net r v) t .lanes)) ≡ upto comes t
+  conserved = queue-kept (vlAt net v .gap) s₀ (news net r v) (empty₀ net sound r per v)
 
   -- none before the greatest send delay
   early : upto c (net .sendGreatest) ≡ zero
-  unfolding upto
-  early = omega (arith, conserved (net .sendGreatest), before (net .sendGreatest) (le-refl (net .sendGreatest)))
-    where
-      before : (t : ℕ) → t ≤ net .sendGreatest → upto (λ u. added length (news net r v u) (s₀ .lanes)) t ≡ zero
-      before zero h = refl
-      before (suc t) h = omega (
-        arith,
-        before t (omega arith),
-        none-added (news net r v t) (s₀ .lanes)
-            (λ i x k. let b = brought-facts net sound r per v t i x k in omega (arith, b .1, reach-time (arrival r (x .message)) (x .message) (b .0 .reached) .0)),
-      )
+  early = omega (
+    arith,
+    conserved (net .sendGreatest),
+    upto-none comes (net .sendGreatest) (λ t h. weigh-none (λ i. length (news net r v t i)) (names (s₀ .lanes))
+        (λ i j. ap length (none-in (news net r v t i) (λ x k.
+        let b = brought-facts net sound r per v t i x k in omega (arith, b .1, reach-time (arrival r (x .message)) (x .message) (b .0 .reached) .0))))),
+  )
 
   abbrev pub goal : ℕ
   goal = net .sendGreatest + (P - 1) * vlAt net v .gap
@@ -228,10 +225,9 @@ module _ (net : Network) (sound : Sound net) (win : Windows net) (aim : Aim net)
   abbrev pub far : ℕ
   far = suc (last + queueStation net v 0)
 
-  come : P ≤ upto (λ u. added length (news net r v u) (s₀ .lanes)) (suc far)
-  come = le-trans (grows came (suc last) (suc far) (omega arith))
-      (upto-mono came (λ u. added length (news net r v u) (s₀ .lanes))
-      (λ u. lane-part length (news net r v u) 0 (s₀ .lanes) (named₀ net sound r per v 0 (omega arith))) (suc far))
+  come : P ≤ upto comes (suc far)
+  come = le-trans (grows came (suc last) (suc far) (omega arith)) (upto-mono came comes
+      (λ u. weigh-part (λ i. length (news net r v u i)) 0 (names (s₀ .lanes)) (named₀ net sound r per v 0 (omega arith))) (suc far))
 
   facts : (t i : ℕ) (x : Packet) → List·Memᴰ x (news net r v t i) → Origin net sound r per v x
   facts t i x k = brought-facts net sound r per v t i x k .0
@@ -239,11 +235,11 @@ module _ (net : Network) (sound : Sound net) (win : Windows net) (aim : Aim net)
   in-lane : (x : Packet) → Origin net sound r per v x → streamAt net (x .message .stream) .sublink ≡ 0
   in-lane x o = omega (arith, sound .references .stream-sub-link (x .message .stream) (o .message .stream), ap (λ (z : ℕ). vlAt net z .sublinks) (o .vl), one)
 
-  gone : (x : Packet) → Within x (queue (vlAt net v .gap) s₀ (news net r v) (suc far) .lanes) → ⊥
+  gone : (x : Packet) → List·Memᴰ x (flat (queue (vlAt net v .gap) s₀ (news net r v) (suc far) .lanes)) → ⊥
   gone x w =
       let l = left-due net sound r per v win hv far x w in
-      let o = origin (vlAt net v .gap) s₀ (news net r v) refl (empty₀ net sound r per v) (Origin net sound r per v) facts (suc far) x w in
+      let o = origin (vlAt net v .gap) s₀ (news net r v) (empty₀ net sound r per v) (Origin net sound r per v) facts (suc far) x w in
       omega (arith, l, reach-time (arrival r (x .message)) (x .message) (o .reached) .1, ap (queueStation net v) (in-lane x o))
 
   pub all-gone : P ≤ upto c (suc far)
-  all-gone = omega (arith, conserved (suc far), nobody (queue (vlAt net v .gap) s₀ (news net r v) (suc far) .lanes) gone, come)
+  all-gone = omega (arith, conserved (suc far), ap length (none-in (flat (queue (vlAt net v .gap) s₀ (news net r v) (suc far) .lanes)) gone), come)
