@@ -16,6 +16,10 @@ use Rattle.frame.specs.Packets.{fullPacket, packets, cut, packetLines}
 use Rattle.frame.specs.Tick.{inForce}
 use Rattle.network.specs.Link.{onLine, lineTicks}
 use Rattle.network.specs.declared.Parent.the-variants.{Root, After}
+use Rattle.network.specs.declared.Vl.{Vl}
+use Rattle.network.specs.declared.Stream.{Stream}
+use Rattle.network.specs.declared.Port.{Port}
+use Rattle.network.specs.declared.Hop.{Hop}
 use Rattle.network.specs.Network.{Network}
 use Rattle.network.specs.Views.{hopsOn, vlsOf, isParent, leaf}
 use Rattle.machine.specs.Sum.{span}
@@ -23,7 +27,7 @@ use Rattle.machine.specs.Pool.{landed}
 use Rattle.machine.specs.Turn.{Lane}
 use Rattle.machine.specs.Queue.{Queue}
 use Rattle.machine.specs.Fifo as Fifo
-use Rattle.machine.specs.Messages.{Release, Message, Packet, Frame, messages}
+use Rattle.machine.specs.Messages.{Release, Message, Packet, Frame, Copy, messages}
 use Rattle.machine.specs.Machine.{State, Run, released, delivered, setsOut, reaches, complete, hands, allSending, state}
 use Rattle.machine.specs.Permitted.{PermittedBelow}
 use Rattle.machine.proofs.Stage.Parts.{queue, handed, fifo, fifo-out, pool, lands}
@@ -94,22 +98,49 @@ pub on-the-way : comes 0 ∷ comes 1 ∷ comes 2 ∷ comes 3 ∷ [] ≡ (0 ∷ [
 unfolding lands pool
 on-the-way = refl
 
--- ---- two VLs for one link, and no port: each hands over a packet in tick 0, and the link takes that which it looks at first
-abbrev pub pair : Network
-pair = record {
+-- ---- four networks of one end system, of VLs with one sub-link and a stream of messages of 10 bytes each, and with delays from 0 to d
+abbrev pub vl : Vl
+vl = record { system = 0; gap = 12500; sublinks = 1; lmax = 64 }
+
+abbrev pub stream-on : ℕ → Stream
+stream-on v = record { vl = v; sublink = 0; sampling = false; size = 10; least = 10; period = 12500; jitter = 0 }
+
+abbrev pub network : ℕ → List Vl → List Stream → List Port → List Hop → Network
+network d vls streams ports hops = record {
   tick = inForce;
   sendLeast = 0;
-  sendGreatest = 0;
+  sendGreatest = d;
   receiveLeast = 0;
-  receiveGreatest = 0;
+  receiveGreatest = d;
   systems = record { perbyte = 1 } ∷ [];
-  vls = record { system = 0; gap = 12500; sublinks = 1; lmax = 64 } ∷ record { system = 0; gap = 12500; sublinks = 1; lmax = 64 } ∷ [];
-  streams =
-      record { vl = 0; sublink = 0; sampling = false; size = 10; least = 10; period = 12500; jitter = 0 }
-      ∷ record { vl = 1; sublink = 0; sampling = false; size = 10; least = 10; period = 12500; jitter = 0 } ∷ [];
-  ports = [];
-  hops = [];
+  vls = vls;
+  streams = streams;
+  ports = ports;
+  hops = hops;
 }
+
+abbrev pub port-to : ℕ → Port
+port-to d = record { perbyte = 1; least = 0; greatest = d }
+
+-- a run of them: the first turns are the first, and in each tick the delays are these
+abbrev pub run-of : (ℕ → List Release) → ℕ → (ℕ → ℕ) → ℕ → (ℕ → List Message) → (ℕ → ℕ → List Copy) → (ℕ → ℕ → List (Lane Frame)) → Run
+run-of releases send flight receive reach enter turns = record {
+  releases = releases;
+  firstSub = λ v. 0;
+  firstVl = λ e. 0;
+  choice = λ t. record {
+    send = λ m. send;
+    reach = reach t;
+    flight = λ h g. flight h;
+    enter = enter t;
+    turns = turns t;
+    receive = λ h g. receive;
+  };
+}
+
+-- ---- two VLs for one link, and no port: each hands over a packet in tick 0, and the link takes that which it looks at first
+abbrev pub pair : Network
+pair = network 0 (vl ∷ vl ∷ []) (stream-on 0 ∷ stream-on 1 ∷ []) [] []
 
 abbrev pub message-on : ℕ → Message
 message-on s = record { released = 0; place = s; stream = s; size = 10 }
@@ -122,19 +153,9 @@ waiting v = record { name = v; line = frame-on v ∷ [] }
 
 -- both VLs are of end system 0: any other has none to look at
 abbrev pub looking-at : List (Lane Frame) → Run
-looking-at order = record {
-  releases = λ t. cond (eqb t 0) (record { stream = 0; size = 10 } ∷ record { stream = 1; size = 10 } ∷ []) [];
-  firstSub = λ v. 0;
-  firstVl = λ e. 0;
-  choice = λ t. record {
-    send = λ m. 0;
-    reach = cond (eqb t 0) (message-on 0 ∷ message-on 1 ∷ []) [];
-    flight = λ h g. 0;
-    enter = λ p. [];
-    turns = λ e. cond (eqb 0 e) order [];
-    receive = λ h g. 0;
-  };
-}
+looking-at order = run-of
+    (λ t. cond (eqb t 0) (record { stream = 0; size = 10 } ∷ record { stream = 1; size = 10 } ∷ []) []) 0 (λ h. 0) 0
+    (λ t. cond (eqb t 0) (message-on 0 ∷ message-on 1 ∷ []) []) (λ t p. []) (λ t e. cond (eqb 0 e) order [])
 
 abbrev pub turn-kept : Run
 turn-kept = looking-at (waiting 0 ∷ waiting 1 ∷ [])
@@ -153,18 +174,7 @@ first-1 = refl
 
 -- ---- one message of 10 bytes over one port, 84 ticks on each link: it is complete in tick 168, and not before
 abbrev pub small : Network
-small = record {
-  tick = inForce;
-  sendLeast = 0;
-  sendGreatest = 0;
-  receiveLeast = 0;
-  receiveGreatest = 0;
-  systems = record { perbyte = 1 } ∷ [];
-  vls = record { system = 0; gap = 12500; sublinks = 1; lmax = 64 } ∷ [];
-  streams = record { vl = 0; sublink = 0; sampling = false; size = 10; least = 10; period = 12500; jitter = 0 } ∷ [];
-  ports = record { perbyte = 1; least = 0; greatest = 0 } ∷ [];
-  hops = record { vl = 0; port = 0; parent = Root } ∷ [];
-}
+small = network 0 (vl ∷ []) (stream-on 0 ∷ []) (port-to 0 ∷ []) (record { vl = 0; port = 0; parent = Root } ∷ [])
 
 -- its packet, handed over in tick t
 abbrev pub packet : Packet
@@ -173,23 +183,16 @@ packet = record { message = message-of 0 0; index = 0; bytes = 84 }
 abbrev pub frame : ℕ → Frame
 frame t = record { packet = packet; vl = 0; born = t }
 
+-- the only VL, with the frame in the tick of its hand-over
+abbrev pub lane-in : ℕ → ℕ → ℕ → List (Lane Frame)
+lane-in u t e = cond (eqb e 0) (record { name = 0; line = cond (eqb t u) (frame u ∷ []) [] } ∷ []) []
+
 abbrev pub one-release : ℕ → List Release
 one-release t = cond (eqb t 0) (release ∷ []) []
 
 abbrev pub at-once : Run
-at-once = record {
-  releases = one-release;
-  firstSub = λ v. 0;
-  firstVl = λ e. 0;
-  choice = λ t. record {
-    send = λ m. 0;
-    reach = cond (eqb t 0) (message-of 0 0 ∷ []) [];
-    flight = λ h g. 0;
-    enter = λ p. cond (eqb t 84) (record { frame = frame 0; hop = 0 } ∷ []) [];
-    turns = λ e. cond (eqb e 0) (record { name = 0; line = cond (eqb t 0) (frame 0 ∷ []) [] } ∷ []) [];
-    receive = λ h g. 0;
-  };
-}
+at-once = run-of one-release 0 (λ h. 0) 0 (λ t. cond (eqb t 0) (message-of 0 0 ∷ []) [])
+    (λ t p. cond (eqb t 84) (record { frame = frame 0; hop = 0 } ∷ []) []) (lane-in 0)
 
 -- a packet is handed over in the tick in which it comes to its queue
 pub in-its-tick : hands small 0 (at-once .choice 0) (state small at-once 0) 0 .got ≡ some packet
@@ -204,36 +207,17 @@ pub not-there : complete small 167 (at-once .choice 167) (state small at-once 16
 unfolding state lineTicks onLine leaf isParent isSome leastFrom
 not-there = refl
 
--- ---- one message of 10 bytes: send delay 2, end system to 86, switch 1, port 0 to 171, switch 2, port 1 to 257, receive 3; what lands is what the run says enters
+-- ---- one message of 10 bytes: send delay 2, end system to 86, switch 1, port 0 to 171, switch 2, port 1 to 257, receive 3; what lands is what
+-- the run says enters
 abbrev pub two : Network
-two = record {
-  tick = inForce;
-  sendLeast = 0;
-  sendGreatest = 9;
-  receiveLeast = 0;
-  receiveGreatest = 9;
-  systems = record { perbyte = 1 } ∷ [];
-  vls = record { system = 0; gap = 12500; sublinks = 1; lmax = 64 } ∷ [];
-  streams = record { vl = 0; sublink = 0; sampling = false; size = 10; least = 10; period = 12500; jitter = 0 } ∷ [];
-  ports = record { perbyte = 1; least = 0; greatest = 9 } ∷ record { perbyte = 1; least = 0; greatest = 9 } ∷ [];
-  hops = record { vl = 0; port = 0; parent = Root } ∷ record { vl = 0; port = 1; parent = After 0 } ∷ [];
-}
+two = network 9 (vl ∷ []) (stream-on 0 ∷ []) (port-to 9 ∷ port-to 9 ∷ [])
+    (record { vl = 0; port = 0; parent = Root } ∷ record { vl = 0; port = 1; parent = After 0 } ∷ [])
 
 -- with a switch delay of d before port 0
 abbrev pub over-two : ℕ → Run
-over-two d = record {
-  releases = one-release;
-  firstSub = λ v. 0;
-  firstVl = λ e. 0;
-  choice = λ t. record {
-    send = λ m. 2;
-    reach = cond (eqb t 2) (message-of 0 0 ∷ []) [];
-    flight = λ h g. d + h;
-    enter = λ p. cond (eqb t 87 && eqb p 0) (record { frame = frame 2; hop = 0 } ∷ []) (cond (eqb t 173 && eqb p 1) (record { frame = frame 2; hop = 1 } ∷ []) []);
-    turns = λ e. cond (eqb e 0) (record { name = 0; line = cond (eqb t 2) (frame 2 ∷ []) [] } ∷ []) [];
-    receive = λ h g. 3;
-  };
-}
+over-two d = run-of one-release 2 (λ h. d + h) 3 (λ t. cond (eqb t 2) (message-of 0 0 ∷ []) [])
+    (λ t p. cond (eqb t 87 && eqb p 0) (record { frame = frame 2; hop = 0 } ∷ [])
+    (cond (eqb t 173 && eqb p 1) (record { frame = frame 2; hop = 1 } ∷ []) [])) (lane-in 2)
 
 abbrev pub r : Run
 r = over-two 1
@@ -262,18 +246,8 @@ not-10 p = omega (arith, p .flight-greatest 86 0 (frame 2) (omega arith) (omega 
 
 -- ---- one VL with two hops without parent: a frame that its end system has sent whole goes to both
 abbrev pub fork : Network
-fork = record {
-  tick = inForce;
-  sendLeast = 0;
-  sendGreatest = 0;
-  receiveLeast = 0;
-  receiveGreatest = 0;
-  systems = record { perbyte = 1 } ∷ [];
-  vls = record { system = 0; gap = 12500; sublinks = 1; lmax = 64 } ∷ [];
-  streams = record { vl = 0; sublink = 0; sampling = false; size = 10; least = 10; period = 12500; jitter = 0 } ∷ [];
-  ports = record { perbyte = 1; least = 0; greatest = 0 } ∷ record { perbyte = 1; least = 0; greatest = 0 } ∷ [];
-  hops = record { vl = 0; port = 0; parent = Root } ∷ record { vl = 0; port = 1; parent = Root } ∷ [];
-}
+fork = network 0 (vl ∷ []) (stream-on 0 ∷ []) (port-to 0 ∷ port-to 0 ∷ [])
+    (record { vl = 0; port = 0; parent = Root } ∷ record { vl = 0; port = 1; parent = Root } ∷ [])
 
 abbrev pub sending : State
 sending = record {

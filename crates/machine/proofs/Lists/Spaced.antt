@@ -3,9 +3,9 @@
 use Prim.Native.Nat.{ℕ, zero, suc, _+_, _*_, _/_, _≤_, _<_}
 use mathlib.Core.Logic.{_⊎_, inl, inr, ⊎-elim}
 use mathlib.Core.Path.{_≡_, ap}
-use native.Mathlib.Nat.{le-div-iff-mul-le}
 use native.Mathlib.Omega.{arith}
 use Rattle.machine.specs.Sum.{span}
+use Rattle.machine.proofs.Lists.Sums.{steps-in}
 
 -- tick t has no event and leaves `next`, or has one, from `next` on, and sets `next` to one gap later
 abbrev pub Spaced : ℕ → (ℕ → ℕ) → (ℕ → ℕ) → ℕ → Type 0
@@ -39,13 +39,9 @@ module _ (gap : ℕ) (c next : ℕ → ℕ) (pos : 0 < gap) (first : next zero �
       add-suc : (n m : ℕ) → n + suc m ≡ suc (n + m)
       add-suc n m = omega arith
 
-  less : (s d : ℕ) → s * gap ≤ d + gap → s ≤ d / gap + 1
-  less zero d h = omega arith
-  less (suc s) d h = omega (arith, le-div-iff-mul-le {x = s} {y = d} pos .1 (omega arith))
-
   pub spaced-count : (x d : ℕ) → span c x d ≤ d / gap + 1
   unfolding Far
   spaced-count x d = ⊎-elim
       (λ h. omega arith)
-      (λ h. less (span c x d) d (omega (arith, next-bound (x + d))))
+      (λ h. steps-in gap (span c x d) d pos (omega (arith, next-bound (x + d))))
       (far x d)

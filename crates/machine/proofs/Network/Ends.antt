@@ -1,9 +1,9 @@
 -- From the hand-over of a frame to its end on the end system's link: one frame of each VL takes no longer than a gap, so no VL brings a second one while the link is busy, and each frame is sent within 7's sum.
 -- Assumes nothing.
-use Prim.Native.Nat.{ℕ, zero, suc, _+_, _*_, _≤_, _<_, max}
+use Prim.Native.Nat.{ℕ, suc, _*_, _≤_, _<_, max}
 use mathlib.Core.Bool.{cond, Bool}
-use mathlib.Core.List.{List, [], _∷_, _++_, List·Memᴰ, List·Memᴰ·head, List·Memᴰ·tail, List·Permᴰ}
-use mathlib.Core.Option.{Option, none}
+use mathlib.Core.List.{List, [], _∷_, List·Memᴰ, List·Memᴰ·head, List·Memᴰ·tail, List·Permᴰ}
+use mathlib.Core.Option.{Option}
 use mathlib.Core.Path.{_≡_, refl, sym, ap, _∙_, subst, subst₂}
 use native.Mathlib.Nat.{le-refl, le-trans, mul-le-mul-right, div-eq-of-lt}
 use native.Mathlib.Omega.{arith}
@@ -19,7 +19,7 @@ use Rattle.network.specs.Views.{vlsOf}
 use Rattle.machine.specs.Sum.{span, count, weigh}
 use Rattle.machine.specs.Turn.{Lane, add, fromTurn}
 use Rattle.machine.specs.Mux.{Mux}
-use Rattle.machine.specs.Fifo.{Sent, ended, still}
+use Rattle.machine.specs.Fifo.{Sent, ended}
 use Rattle.machine.specs.Messages.{Frame, endCost}
 use Rattle.machine.specs.Machine.{Run, start}
 use Rattle.machine.specs.Permitted.{Permitted}
@@ -30,9 +30,8 @@ use Rattle.machine.proofs.Lists.Sums.{span-mono, span-mul, span-sum, we
 use Rattle.machine.proofs.Lists.Turns.{Empty}
 use Rattle.machine.proofs.Lists.Orders.{was-gathered}
 use Rattle.machine.proofs.Lists.Lanes.{names, brought, brought-weigh, is-brought}
-use Rattle.machine.proofs.Stage.Moves.{out-origin}
-use Rattle.machine.proofs.Stage.Moves as Moves
-use Rattle.machine.proofs.Stage.LinkLaws.{Starts}
+use Rattle.machine.proofs.Stage.Moves.{out-origin, weighed}
+use Rattle.machine.proofs.Stage.LinkLaws.{Sending}
 use Rattle.machine.proofs.Stage.LinkLaws as Link
 use Rattle.machine.proofs.Stage.MuxLaws
 use Rattle.machine.proofs.Stage.Delay.{Delay, delay-same}
@@ -93,36 +92,29 @@ module _ (net : Network) (sound : Sound net) (r : Run) (per : Permitted net r) (
   abbrev cost : Frame → ℕ
   cost = endCost net e
 
-  abbrev born : Frame → ℕ
-  born f = f .born
-
   abbrev lanes : ℕ → List (Lane Frame)
   lanes = MuxLaws.lanes cost s₀ empty₀ new looked ordered
 
   abbrev ins : ℕ → List Frame
   ins = brought new lanes (MuxLaws.stay cost s₀ empty₀ new looked ordered)
 
-  abbrev line : ℕ → List Frame
-  line = MuxLaws.line cost s₀ empty₀ new looked ordered
-
   abbrev link : ℕ → Option (Sent Frame)
   link = MuxLaws.link cost s₀ empty₀ new looked ordered
-
-  line₀ : line zero ≡ []
-  line₀ = MuxLaws.line₀ cost s₀ empty₀ new looked ordered
-
-  link₀ : link zero ≡ none
-  unfolding mux
-  link₀ = refl
-
-  step : (t : ℕ) → Starts cost t (line t ++ ins t) (still t (link t)) (line (suc t)) (link (suc t))
-  step = MuxLaws.step cost s₀ empty₀ new looked ordered
 
   came : (t : ℕ) (f : Frame) → List·Memᴰ f (ins t) → (i : ℕ) × List·Memᴰ f (new t i)
   came t f m = let w = was-gathered (new t) (names (lanes t)) f m in (w .0, w .2)
 
-  pos : (t : ℕ) (f : Frame) → List·Memᴰ f (ins t) → 0 < cost f
-  pos t f m = let w = came t f m in stamped t (w .0) f (w .1) .1
+  sending : Sending cost
+  unfolding mux
+  sending = record {
+    line = MuxLaws.line cost s₀ empty₀ new looked ordered;
+    link = link;
+    ins = ins;
+    line₀ = MuxLaws.line₀ cost s₀ empty₀ new looked ordered;
+    link₀ = refl;
+    step = MuxLaws.step cost s₀ empty₀ new looked ordered;
+    pos = λ t f m. let w = came t f m in stamped t (w .0) f (w .1) .1;
+  }
 
   -- what tick t brings weighs what its VLs hand over
   ins-weigh : (w : Frame → ℕ) (t : ℕ) → weigh w (ins t) ≡ weigh (λ i. weigh w (new t i)) ns
@@ -161,8 +153,8 @@ module _ (net : Network) (sound : Sound net) (r : Run) (per : Permitted net r) (
 
   -- what is sent whole was handed over by the VL that it names
   known : (t : ℕ) (f : Frame) → List·Memᴰ f (ended t (link t)) → List·Memᴰ f (new (f .born) (f .vl)) × (leastLine ≤ f .packet .bytes)
-  known = out-origin (Link.there cost line link ins line₀ link₀ step pos) ins (λ t. ended t (link t))
-      (Link.none-first cost line link ins line₀ link₀ step pos) (Link.moves cost line link ins line₀ link₀ step pos)
+  unfolding sending
+  known = out-origin (Link.there cost sending) ins (Link.out cost sending) (Link.none-first cost sending) (Link.moves cost sending)
       (λ t f. List·Memᴰ f (new (f .born) (f .vl)) × (leastLine ≤ f .packet .bytes))
       (λ t f m. let i = came t f m in let w = fact t (i .0) f (i .1) in
       (subst₂ (λ (u j : ℕ). List·Memᴰ f (new u j)) (sym (w .0)) (sym (w .1 .vl)) (i .1), w .1 .bytes-least))
@@ -185,14 +177,14 @@ module _ (net : Network) (sound : Sound net) (r : Run) (per : Permitted net r) (
 
   -- a frame is sent whole from its own least time to one frame of each VL later
   pub end-delay : Delay (hand net r v) (sent net r v) (sendLine net v) (sendSum net e)
-  unfolding mux-out mux
+  unfolding mux-out mux sending
   end-delay =
-      let back = Link.backward cost line link ins line₀ link₀ step pos born (λ t f m. let i = came t f m in stamped t (i .0) f (i .1) .0)
-      window (sendSum net e) (omega arith) (omega arith) bound in
+      let born-at : (t : ℕ) (f : Frame) → List·Memᴰ f (ins t) → f .born ≡ t = λ t f m. let i = came t f m in stamped t (i .0) f (i .1) .0 in
+      let back = Link.backward cost sending (λ f. f .born) born-at window (sendSum net e) (omega arith) (omega arith) bound in
+      let go = Link.forward cost sending (λ f. f .born) born-at window (sendSum net e) (omega arith) (omega arith) bound in
       delay-same (λ t. refl) (λ t. sent-is net r v t) (record {
         forward = λ t f k.
-            let o = Link.forward cost line link ins line₀ link₀ step pos born (λ t f m. let i = came t f m in stamped t (i .0) f (i .1) .0)
-            window (sendSum net e) (omega arith) (omega arith) bound t f (is-brought new lanes (MuxLaws.stay cost s₀ empty₀ new looked ordered) t v f named₀ k) in
+            let o = go t f (is-brought new lanes (MuxLaws.stay cost s₀ empty₀ new looked ordered) t v f named₀ k) in
             let b = back (o .0) f (o .1) in
             let w = fact t v f k in
             record {
@@ -207,9 +199,15 @@ module _ (net : Network) (sound : Sound net) (r : Run) (per : Permitted net r) (
             let vl′ : f .vl ≡ v = rw (← o .is) (eqb→eq (o .from .vl) v (o .passes)) in
             let w = known t f there′ in
             let b = back t f there′ in
-            record { at = f .born; there = subst (λ (i : ℕ). List·Memᴰ f (new (f .born) i)) vl′ (w .0); least = omega (arith, b .0, least-cost f (w .1)); most = b .1 };
-        weighed = λ w t. simp (chosen-weigh mine (λ f. f) w) (le-trans
-            (Moves.weighed (Link.there cost line link ins line₀ link₀ step pos) ins (λ t. ended t (link t))
-            (Link.none-first cost line link ins line₀ link₀ step pos) (Link.moves cost line link ins line₀ link₀ step pos) (λ f. cond (mine f) (w f) 0) t)
-            (upto-mono (λ u. weigh (λ f. cond (mine f) (w f) 0) (ins u)) (λ u. weigh w (new u v)) (mine-only w) t));
+            record {
+              at = f .born;
+              there = subst (λ (i : ℕ). List·Memᴰ f (new (f .born) i)) vl′ (w .0);
+              least = omega (arith, b .0, least-cost f (w .1));
+              most = b .1;
+            };
+        weighed = λ w t.
+            let q : Frame → ℕ = λ f. cond (mine f) (w f) 0 in
+            simp (chosen-weigh mine (λ f. f) w) (le-trans
+            (weighed (Link.there cost sending) ins (Link.out cost sending) (Link.none-first cost sending) (Link.moves cost sending) q t)
+            (upto-mono (λ u. weigh q (ins u)) (λ u. weigh w (new u v)) (mine-only w) t));
       })

@@ -1,12 +1,10 @@
 -- From 01's figures to the windows that the lemmas use: the jitter of a hop is the spread of its window, and the rows' worst and best are the windows' ends. By induction along the route.
 -- Assumes nothing.
-use Prim.Native.Nat.{ℕ, zero, suc, _+_, _-_, _≤_, _<_}
+use Prim.Native.Nat.{ℕ, zero, suc, _+_, _-_, _<_}
 use mathlib.Core.Bool.{Bool, true, false, cond, not, _&&_}
-use mathlib.Core.List.{List, [], _∷_, _++_}
-use mathlib.Core.Logic.{⊎-elim, _≢_}
 use mathlib.Core.Option.{Option, none, some}
-use mathlib.Core.Path.{_≡_, refl, sym, ap, ap₂, _∙_, subst}
-use native.Mathlib.Nat.{le-refl, eq-or-lt-of-le, le-of-suc-le-suc}
+use mathlib.Core.Path.{_≡_, refl, ap, _∙_}
+use native.Mathlib.Nat.{le-refl}
 use native.Mathlib.Omega.{arith}
 use lib.Dec.{eqb, T, eqb→eq, eqb-refl}
 use lib.ListN.{length}
@@ -24,54 +22,27 @@ use Rattle.rows.proofs.PortLaws.{figures-of}
 use Rattle.rows.proofs.RowLaws.{mostAt, leastAt, worst-sum, best-sum}
 use Rattle.machine.specs.Sum.{weigh}
 use Rattle.machine.specs.Sound.{Sound, Busy}
-use Rattle.machine.proofs.Lists.Cases.{eq→eqb, by-test}
-use Rattle.machine.proofs.Lists.Sums.{weigh-append}
-use Rattle.machine.proofs.Stage.Select.{passing-suc}
+use Rattle.machine.proofs.Lists.Sums.{upto-one}
+use Rattle.machine.proofs.Stage.Select.{weigh-passing}
 use Rattle.machine.proofs.Network.Windows.{queue-is, soon-by, late-by, Windows, latest, soonest}
 use Rattle.machine.proofs.Network.Covers.{queue-covers, port-covers, figure-least}
 
 -- ---- one number taken out of a sum
-module _ (g : ℕ → ℕ) (q : ℕ → Bool) (v : ℕ) where
-  abbrev others : ℕ → Bool
-  others w = q w && not (eqb w v)
+pub taken-out : (g : ℕ → ℕ) (q : ℕ → Bool) (v : ℕ) → T (q v) → (n : ℕ) → v < n
+    → weigh g (passing q n) ≡ weigh g (passing (λ w. q w && not (eqb w v)) n) + g v
+taken-out g q v t n h = rw (weigh-passing g q n, weigh-passing g (λ w. q w && not (eqb w v)) n)
+    (upto-one (λ i. cond (q i) (g i) 0) (λ i. cond (q i && not (eqb i v)) (g i) 0) v (g v)
+    (λ i e. other (q i) (eqb i v) (g i) (λ k. e (eqb→eq i v k))) (own (q v) (eqb v v) (g v) t (eqb-refl v)) n .1 h)
+  where
+    other : (a b : Bool) (x : ℕ) → (T b → ⊥) → cond a x 0 ≡ cond (a && not b) x 0
+    other true true x k = absurd (k tt)
+    other true false x k = refl
+    other false b x k = refl
 
-  other-tests : (n : ℕ) → n ≢ v → others n ≡ q n
-  other-tests n h = go (q n) (eqb n v) (λ t. h (eqb→eq n v t))
-    where
-      go : (a b : Bool) → (T b → ⊥) → a && not b ≡ a
-      go true true k = absurd (k tt)
-      go true false k = refl
-      go false b k = refl
-
-  same-test : (n : ℕ) → n ≡ v → others n ≡ false
-  same-test n h = go (q n) (eqb n v) (eq→eqb n v h)
-    where
-      go : (a b : Bool) → T b → a && not b ≡ false
-      go true true k = refl
-      go true false k = absurd k
-      go false b k = refl
-
-  out-below : (n : ℕ) → n ≤ v → passing q n ≡ passing others n
-  unfolding passing
-  out-below zero h = refl
-  out-below (suc n) h =
-      passing-suc q n ∙ ap₂ (λ (a : List ℕ) (b : Bool). a ++ cond b (n ∷ []) []) (out-below n (omega arith)) (sym (other-tests n (omega arith))) ∙ sym (passing-suc others n)
-
-  sum-suc : (p : ℕ → Bool) (n : ℕ) → weigh g (passing p (suc n)) ≡ weigh g (passing p n) + weigh g (cond (p n) (n ∷ []) [])
-  sum-suc p n = ap (weigh g) (passing-suc p n) ∙ weigh-append g (passing p n) (cond (p n) (n ∷ []) [])
-
-  pub taken-out : T (q v) → (n : ℕ) → v < n → weigh g (passing q n) ≡ weigh g (passing others n) + g v
-  unfolding total
-  taken-out t zero h = absurd (omega arith)
-  taken-out t (suc n) h = ⊎-elim
-      (λ (e : v ≡ n).
-      let c : weigh g (cond (others n) (n ∷ []) []) ≡ 0 = ap (λ (z : Bool). weigh g (cond z (n ∷ []) [])) (same-test n (sym e)) in
-      let d : weigh g (cond (q n) (n ∷ []) []) ≡ g v = by-test (q n) (λ (l : List ℕ). weigh g l ≡ g v) (λ k. omega (arith, ap g e)) (λ k. absurd (k (subst (λ (z : ℕ). T (q z)) e t))) in
-      omega (arith, sum-suc q n, sum-suc others n, c, d, ap (weigh g) (out-below n (omega arith))))
-      (λ (l : v < n).
-      let c : weigh g (cond (others n) (n ∷ []) []) ≡ weigh g (cond (q n) (n ∷ []) []) = ap (λ (z : Bool). weigh g (cond z (n ∷ []) [])) (other-tests n (omega arith)) in
-      omega (arith, sum-suc q n, sum-suc others n, c, taken-out t n l))
-      (eq-or-lt-of-le (le-of-suc-le-suc h))
+    own : (a b : Bool) (x : ℕ) → T a → T b → cond a x 0 ≡ cond (a && not b) x 0 + x
+    own true true x h k = omega arith
+    own true false x h k = absurd k
+    own false b x h k = absurd h
 
 module _ (net : Network) (sound : Sound net) (busy : Busy net) where
   -- 7's sum is the mux wait of a VL and a frame of its own

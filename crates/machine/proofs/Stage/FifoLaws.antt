@@ -17,7 +17,7 @@ use Rattle.machine.proofs.Lists.Sums.{upto, weigh-append}
 use Rattle.machine.proofs.Stage.Parts.{fifo, fifo-out}
 use Rattle.machine.proofs.Stage.Delay.{Delay}
 use Rattle.machine.proofs.Stage.Moves as Moves
-use Rattle.machine.proofs.Stage.LinkLaws.{free, Starts, goes-on, takes, rests, Settled}
+use Rattle.machine.proofs.Stage.LinkLaws.{free, Starts, goes-on, takes, rests, Settled, Sending}
 use Rattle.machine.proofs.Stage.LinkLaws as Link
 
 module _ {Job : Type 0} (cost : Job → ℕ) where
@@ -119,17 +119,9 @@ module _ {Job : Type 0} (cost : Job → ℕ) where
     abbrev link : ℕ → Option (Sent Job)
     link t = fifo cost ins t .link
 
-    step : (t : ℕ) → Starts cost t (line t ++ ins t) (still t (link t)) (line (suc t)) (link (suc t))
+    sending : Sending cost
     unfolding fifo
-    step t = starts t (line t ++ ins t) (link t)
-
-    line₀ : line zero ≡ []
-    unfolding fifo
-    line₀ = refl
-
-    link₀ : link zero ≡ none
-    unfolding fifo
-    link₀ = refl
+    sending = record { line = line; link = link; ins = ins; line₀ = refl; link₀ = refl; step = λ t. starts t (line t ++ ins t) (link t); pos = pos }
 
     -- all that the port will send after tick t: what was left, and what has come
     to-send : ℕ → List (Sent Job)
@@ -146,21 +138,18 @@ module _ {Job : Type 0} (cost : Job → ℕ) where
     to-send-is t = future-start t (line t ++ ins t) (still t (link t)) ∙ future-append t (line t) (ins t) (still t (link t))
 
     settled : (t : ℕ) → Settled cost t (line (suc t)) (link (suc t))
-    settled = Link.settled cost line link ins line₀ link₀ step pos
+    unfolding sending
+    settled = Link.settled cost sending
 
     pub weighed : (w : Job → ℕ) (t : ℕ) → upto (λ u. weigh w (fifo-out cost ins u)) t ≤ upto (λ u. weigh w (ins u)) t
-    unfolding fifo-out
-    weighed = Moves.weighed (Link.there cost line link ins line₀ link₀ step pos) ins (λ t. ended t (link t))
-        (Link.none-first cost line link ins line₀ link₀ step pos) (Link.moves cost line link ins line₀ link₀ step pos)
+    unfolding fifo-out sending
+    weighed = Moves.weighed (Link.there cost sending) ins (Link.out cost sending) (Link.none-first cost sending) (Link.moves cost sending)
 
     -- ---- with an arrival bound and a figure that covers it
     module _ (env : ℕ → ℕ) (f : ℕ) (bound : (x d : ℕ) → span (λ t. weigh cost (ins t)) x d ≤ env d) (covers : (d : ℕ) → env d ≤ f + d) where
       pub work-within : (t : ℕ) → free cost t (still t (link t)) + weigh cost (line t ++ ins t) ≤ t + f
-      work-within t = omega (
-        arith,
-        Link.e-is cost line link ins line₀ link₀ step pos t,
-        Link.e-bound cost line link ins line₀ link₀ step pos env f bound covers t,
-      )
+      unfolding sending
+      work-within t = omega (arith, Link.e-is cost sending t, Link.e-bound cost sending env f bound covers t)
 
       -- a job came at a tick from which its own cost, and no more than the figure, has passed when it is sent whole
       abbrev Within : ℕ → Sent Job → Type 0

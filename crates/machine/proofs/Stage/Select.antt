@@ -3,9 +3,8 @@
 use Prim.Native.Nat.{ℕ, zero, suc, _+_, _≤_, _<_}
 use mathlib.Core.Bool.{Bool, true, false, cond, not}
 use mathlib.Core.List.{List, [], _∷_, _++_, List·Memᴰ, List·Memᴰ·head, List·Memᴰ·tail, List·Permᴰ, List·Permᴰ·nil, List·Permᴰ·cons, List·Permᴰ·trans, Permᴰ·symm, Permᴰ·middle, Memᴰ·append-left, Memᴰ·append-right, append-nil, List·Memᴰ·not-nil, List·Memᴰ·cases-cons, List·Memᴰ·append-cases}
-use mathlib.Core.Logic.{inl, inr, dite, _⊎_, ⊎-elim, _≢_}
+use mathlib.Core.Logic.{_⊎_, ⊎-elim, _≢_}
 use mathlib.Core.Path.{_≡_, refl, sym, ap, _∙_, subst}
-use native.Mathlib.Decide.{decLt}
 use native.Mathlib.Nat.{le-refl, eq-or-lt-of-le, le-of-suc-le-suc}
 use native.Mathlib.Omega.{arith}
 use lib.Dec.{T, eqb}
@@ -18,7 +17,7 @@ use Rattle.machine.specs.Lists.{chosen, gather}
 use Rattle.machine.specs.Messages.{Frame, copy, ofHop}
 use Rattle.machine.proofs.Lists.Cases.{by-test, by-eqb}
 use Rattle.machine.proofs.Lists.Orders.{gather-append}
-use Rattle.machine.proofs.Lists.Sums.{weigh-append}
+use Rattle.machine.proofs.Lists.Sums.{upto, upto-few, weigh-append}
 
 -- one more number at the end, if it passes
 pub passing-suc : (q : ℕ → Bool) (n : ℕ) → passing q (suc n) ≡ passing q n ++ cond (q n) (n ∷ []) []
@@ -127,27 +126,20 @@ pub was-passing : (q : ℕ → Bool) (n i : ℕ) → List·Memᴰ i (passing q n
 was-passing q n i m = let w = passing-member q n i m in (w .0, subst T (sym (w .1)) tt)
 
 -- ---- sums over numbers
+pub weigh-passing : (g : ℕ → ℕ) (q : ℕ → Bool) (n : ℕ) → weigh g (passing q n) ≡ upto (λ i. cond (q i) (g i) 0) n
+unfolding total upto passing
+weigh-passing g q zero = refl
+weigh-passing g q (suc n) =
+    let last : weigh g (cond (q n) (n ∷ []) []) ≡ cond (q n) (g n) 0 =
+    elim (q n) as (λ b. weigh g (cond b (n ∷ []) []) ≡ cond b (g n) 0) [ true ↦ omega arith | false ↦ refl ] in
+    omega (arith, ap (weigh g) (passing-suc q n), weigh-append g (passing q n) (cond (q n) (n ∷ []) []), weigh-passing g q n)
+
 -- a sum in which only one number counts
 pub weigh-one : (g : ℕ → ℕ) (v : ℕ) → ((i : ℕ) → i ≢ v → g i ≡ zero) → (q : ℕ → Bool) (n : ℕ) → weigh g (passing q n) ≤ g v
-unfolding total passing
-weigh-one g v h q zero = omega arith
-weigh-one g v h q (suc n) = ⊎-elim
-    (λ (l : n < v). omega (arith, below (suc n) (omega arith)))
-    (λ (l : v ≤ n). ⊎-elim
-    (λ (e : v ≡ n). omega (arith, ap (weigh g) (passing-suc q n), weigh-append g (passing q n) (cond (q n) (n ∷ []) []), below n (omega arith), last n, ap g e))
-    (λ (k : v < n). omega (arith, ap (weigh g) (passing-suc q n), weigh-append g (passing q n) (cond (q n) (n ∷ []) []), weigh-one g v h q n, last n, h n (omega arith)))
-    (eq-or-lt-of-le l))
-    (lt-or-ge n v)
-  where
-    last : (n : ℕ) → weigh g (cond (q n) (n ∷ []) []) ≤ g n
-    last n = by-test (q n) (λ (l : List ℕ). weigh g l ≤ g n) (λ k. omega arith) (λ k. omega arith)
-
-    below : (n : ℕ) → n ≤ v → weigh g (passing q n) ≡ zero
-    below zero k = refl
-    below (suc n) k = omega (arith, ap (weigh g) (passing-suc q n), weigh-append g (passing q n) (cond (q n) (n ∷ []) []), below n (omega arith), last n, h n (omega arith))
-
-    lt-or-ge : (a b : ℕ) → (a < b) ⊎ (b ≤ a)
-    lt-or-ge a b = dite (decLt a b) (λ k. inl k) (λ k. inr (omega arith))
+weigh-one g v h q n =
+    let f : ℕ → ℕ = λ i. cond (q i) (g i) 0 in
+    let part : (i : ℕ) → f i ≤ g i = λ i. elim (q i) as (λ b. cond b (g i) 0 ≤ g i) [ true ↦ le-refl (g i) | false ↦ omega arith ] in
+    omega (arith, weigh-passing g q n, upto-few f v (λ i e. omega (arith, part i, h i e)) n, part v)
 
 pub count-chosen : {X : Type 0} (p q : X → Bool) (l : List X) → count q (chosen p (λ x. x) l) ≤ count q l
 unfolding total
