@@ -3,7 +3,7 @@
 use Prim.Native.Nat.{ℕ, _*_, _%_, _^_, _<_}
 use mathlib.Core.List.{List}
 use mathlib.Core.Option.{some}
-use mathlib.Core.Path.{_≡_, ap, _∙_}
+use mathlib.Core.Path.{_≡_}
 use native.Mathlib.Omega.{arith}
 use lib.Dec.{eqb, eqb→eq}
 use lib.ListN.{length}
@@ -25,10 +25,11 @@ use Rattle.search.specs.Pass.{cycle}
 use Rattle.table.specs.Answers.{accepted}
 use Rattle.table.specs.Sections.{kindIn, rows, row}
 use Rattle.table.specs.Lists.{unpacked}
+use Rattle.table.specs.Decoded.{vlIn}
 use Rattle.table.specs.Read.{networkIn, readAnswer}
 use Rattle.table.proofs.AnswerLaws.{Sound}
 use Rattle.table.proofs.UnpackLaws.{sound-rows}
-use Rattle.table.proofs.DecodedLaws.{vls-are, vl-gap}
+use Rattle.table.proofs.DecodedLaws.{vls-are, vl-there}
 use Rattle.table.proofs.ReadLaws.{read-sound, count-read, number-read}
 use Rattle.order.specs.Demand2.{GapTable}
 
@@ -44,14 +45,13 @@ meant bytes sound v h = faultless Reading 2 (row bytes 2 v) (sound-rows bytes so
 
 of-vl : (bytes : List ℕ) → readAnswer bytes ≡ accepted → (v : ℕ) → v < length (networkIn bytes .vls)
     → gapOf (named 2 (row bytes 2 v) name.Gap) ≡ some (vlAt (networkIn bytes) v .gap)
-unfolding networkIn
+unfolding networkIn vlIn
 of-vl bytes e v h =
     let there = vls-are (unpacked bytes) in
     let count = count-read bytes 1 (omega arith) in
     let low : v < rows bytes 2 = omega arith in
     let number = number-read bytes 1 v name.Gap (omega arith) low (omega (arith, listed-is 2, field-places .vl-gap)) in
-    let gap = vl-gap (unpacked bytes) v (omega arith) ∙ ap (λ (ms : ℕ). perMs * ms) number in
-    rw gap (gap-in-ms (named 2 (row bytes 2 v) name.Gap) _ (meant bytes (read-sound bytes e) v low))
+    rw (vl-there (unpacked bytes) v (omega arith), number) (gap-in-ms (named 2 (row bytes 2 v) name.Gap) _ (meant bytes (read-sound bytes e) v low))
 
 pub gap-table : GapTable
 unfolding cycle

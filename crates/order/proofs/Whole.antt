@@ -32,7 +32,7 @@ use Rattle.table.specs.Answers.{accepted, firstGiven}
 use Rattle.table.specs.Sections.{headerRow, version, rows, from, row, recordOf, records, lent}
 use Rattle.table.specs.Unpack.{answer1, answer2, answer3, badRow, badSection, answer4}
 use Rattle.table.specs.Lists.{listFor, recordsIn, headerOf, unpacked}
-use Rattle.table.specs.Decoded.{numberAt, ticksAt, parentOf, systemIn, vlIn, streamIn, portIn, hopIn, networkAt}
+use Rattle.table.specs.Decoded.{ticksAt, parentOf, systemIn, vlIn, streamIn, portIn, hopIn, networkAt}
 use Rattle.table.specs.Read.{networkIn, badRefSection, answer5, answer6}
 use Rattle.rows.specs.Links.{sendMost, sendSum}
 use Rattle.network.specs.Views.{vlsOf}
@@ -53,7 +53,7 @@ use Rattle.order.proofs.Demand3.{demand-3}
 
 -- ---- the bytes: they read to 01's network
 pub network-is : networkIn table ≡ whole
-unfolding networkIn networkAt systemIn vlIn streamIn portIn hopIn numberAt ticksAt parentOf recordsIn listFor tabulate perMs perByte perUnit unpacked headerOf records recordOf row from rows headerRow rowAt rowRoom readAll fieldAt bitAt digit widths layoutIn size header endSystem vl stream port hop total converted convert meaning listed listedIn isPadding numberOr0 msOf indexIn numberOf version kindOf kindsOf named
+unfolding networkIn networkAt systemIn vlIn streamIn portIn hopIn ticksAt parentOf recordsIn listFor tabulate perMs perByte perUnit unpacked headerOf records recordOf row from rows headerRow rowAt rowRoom readAll fieldAt bitAt digit widths layoutIn size header endSystem vl stream port hop total converted convert meaning listed listedIn isPadding numberOr0 msOf indexIn numberOf version kindOf kindsOf named
 network-is = refl
 
 none-1 : answer1 table ≡ none

@@ -1,6 +1,6 @@
 -- The sheet is filled from the front: behind the header's numbers and the counts, each section's records and zeros up to its capacity. So it is the sheet of the table's lists, and the network on it is the table's.
 -- Assumes nothing.
-use Prim.Native.Nat.{ℕ, zero, suc, _+_, _-_, _*_, _/_, _≤_, _<_, min}
+use Prim.Native.Nat.{ℕ, zero, suc, _+_, _-_, _*_, _/_, _%_, _≤_, _<_}
 use mathlib.Core.Bool.{true, false, true≢false, false≢true}
 use mathlib.Core.List.{List, [], _∷_, _++_, append-assoc}
 use mathlib.Core.Path.{_≡_, refl, sym, ap, ap₂, _∙_}
@@ -9,35 +9,34 @@ use native.Mathlib.Omega.{arith}
 use borrow.Author.Tests.{lt-ltb, eq-eqb, ne-eqb}
 use lib.Dec.{ltb}
 use lib.ListN.{length, getD, take, drop, replicate, length-append, length-drop}
-use lib.Seq.{take-append-seam, length-take-le, take-all}
+use lib.Seq.{take-append-seam, length-take-le, getD-take, getD-drop}
 use Rattle.base.specs.Tabulate.{tabulate}
 use Rattle.base.proofs.TabulateLaws.{tabulate-at}
 use Rattle.base.proofs.Tests.{within-yes}
-use Rattle.layout.specs.Rows.{listed}
-use Rattle.layout.specs.declared.Name.the-variants as name
+use Rattle.layout.specs.Names.{numberOf, indexIn}
+use Rattle.layout.specs.Rows.{named, listed}
 use Rattle.layout.specs.Limits.{most}
-use Rattle.layout.specs.Layout.{headerNames}
+use Rattle.layout.specs.Layout.{vl, layoutIn, headerNames}
 use Rattle.layout.specs.Sizes.{capacity, place}
 use Rattle.layout.proofs.LayoutLaws.{listed-is}
-use Rattle.layout.proofs.SizeLaws.{place-le, field-places}
+use Rattle.layout.proofs.SizeLaws.{place-le}
+use Rattle.layout.proofs.PlainLaws.{PlainVl}
 use Rattle.network.specs.Network.{Network}
 use Rattle.network.specs.Ranges.{Ranges}
 use Rattle.table.specs.declared.Answer.{Answer}
 use Rattle.table.specs.Answers.{accepted, firstGiven}
 use Rattle.table.specs.Sections.{rows, records, lent}
-use Rattle.table.specs.Lists.{listFor, recordsIn, headerOf, unpacked}
-use Rattle.table.specs.Decoded.{numberAt, networkOf}
+use Rattle.table.specs.Lists.{listFor, recordsIn, recordAt, headerOf, unpacked}
 use Rattle.table.specs.Read.{networkIn, answer5, answer6, readAnswer}
 use Rattle.table.proofs.AnswerLaws.{Sound, unpack-was}
-use Rattle.table.proofs.SectionLaws.{length-records}
 use Rattle.table.proofs.HeaderLaws.{five}
 use Rattle.layout.proofs.LayoutLaws.{listed-some}
-use Rattle.table.proofs.UnpackLaws.{length-header}
+use Rattle.table.proofs.UnpackLaws.{list-is, length-list, length-header}
 use Rattle.table.proofs.ReadingLaws.{few, readersLengths, own-refused, own-accepted}
 use Rattle.table.proofs.HeldLaws.{vl-row}
-use Rattle.table.proofs.ReadLaws.{count-read, number-read, read-references, read-sound, sound-ranges, read-ranges}
+use Rattle.table.proofs.ReadLaws.{count-read, record-read, read-references, read-sound, sound-ranges, read-ranges}
 use Rattle.unpacker.specs.Unpacking.{tableAnswer, fitting}
-use Rattle.sheet.specs.Sheet.{networkOn, Good, block, blocks, sheetOf}
+use Rattle.sheet.specs.Sheet.{readAs, networkOn, Good, block, blocks, sheetOf}
 use Rattle.reader.specs.Reading.{readSheet}
 use Rattle.sheet.proofs.BlockLaws.{Held, length-block, length-blocks, network-same}
 
@@ -70,15 +69,6 @@ unfolding tableAnswer
 own-sound bytes e = unpack-was bytes readersLengths (own-accepted bytes e .0)
 
 module _ (bytes : List ℕ) (sound : Sound bytes) where
-  list-is : (s : ℕ) → suc s < 6 → listFor (unpacked bytes) (suc s) ≡ records bytes (suc s) (rows bytes (suc s))
-  unfolding listFor unpacked
-  list-is zero h = refl
-  list-is (suc zero) h = refl
-  list-is (suc (suc zero)) h = refl
-  list-is (suc (suc (suc zero))) h = refl
-  list-is (suc (suc (suc (suc zero)))) h = refl
-  list-is (suc (suc (suc (suc (suc s))))) h = absurd (omega arith)
-
   -- ---- all records of a section fit
   all-fit : (s : ℕ) → suc s < 6 → fitting bytes (suc s) (capacity (suc s)) ≡ rows bytes (suc s)
   unfolding fitting capacity
@@ -92,21 +82,42 @@ module _ (bytes : List ℕ) (sound : Sound bytes) where
   section-block s n h e =
       ap (λ (m : ℕ). lent m (records bytes (suc s) (fitting bytes (suc s) m))) e
       ∙ ap (λ (m : ℕ). lent (capacity (suc s)) (records bytes (suc s) m)) (all-fit s h)
-      ∙ ap (lent (capacity (suc s))) (sym (list-is s h))
+      ∙ ap (lent (capacity (suc s))) (sym (list-is bytes s h))
 
   header-whole : length (unpacked bytes .header) ≡ length headerNames
   unfolding unpacked
   header-whole = length-header bytes
 
+  -- ---- the numbers of a VL are small
+  below : (vs : List ℕ) → PlainVl vs → (j : ℕ) → j < 4 → getD vs j 0 < 65536
+  unfolding named indexIn numberOf layoutIn vl
+  below vs p zero h = omega (arith, p .end-system)
+  below vs p (suc zero) h = omega (arith, p .gap-greatest)
+  below vs p (suc (suc zero)) h = omega (arith, p .sub-links-greatest)
+  below vs p (suc (suc (suc zero))) h = omega (arith, p .lmax-greatest)
+  below vs p (suc (suc (suc (suc j)))) h = absurd (omega arith)
+
+  small : (s k : ℕ) → suc s < 6 → k < length (listFor (unpacked bytes) (suc s))
+      → readAs (suc s) (getD (listFor (unpacked bytes) (suc s)) k 0) ≡ getD (listFor (unpacked bytes) (suc s)) k 0
+  unfolding readAs
+  small zero k h l = refl
+  small (suc zero) k h l =
+      let ns = listFor (unpacked bytes) 2 in
+      let m = listed-is 2 in
+      let row : k / 4 < rows bytes 2 = omega (arith, rw m at (length-list bytes 1 h)) in
+      let e : k ≡ k / 4 * listed 2 + k % 4 = rw m (omega arith) in
+      let here : getD ns k 0 ≡ getD (recordAt (unpacked bytes) 2 (k / 4)) (k % 4) 0 =
+      ap (λ (n : ℕ). getD ns n 0) e ∙ sym (getD-drop (k / 4 * listed 2) ns (k % 4) 0) ∙ sym (getD-take (listed 2) (drop (k / 4 * listed 2) ns) (k % 4) 0 (omega arith)) in
+      omega (arith, here, record-read bytes 1 (k / 4) (k % 4) h row (omega arith), below _ (vl-row bytes sound (k / 4) row) (k % 4) (omega arith))
+  small (suc (suc s)) k h l = rw (ne-eqb (suc (suc (suc s))) 2 (λ e. omega arith))
+
   -- ---- so the network on the sheet is the table's
   pub held : Held (unpacked bytes)
   held = record {
     header = header-whole;
-    whole = λ s h. ap length (list-is s h) ∙ length-records bytes (suc s) (rows bytes (suc s)) ∙ ap (λ (n : ℕ). n * listed (suc s)) (sym (count-read bytes s h));
+    whole = λ s h. length-list bytes s h ∙ ap (λ (n : ℕ). n * listed (suc s)) (sym (count-read bytes s h));
     few = λ s h. rw (count-read bytes s h) (few bytes (sound .header) s h);
-    gaps = λ i h.
-        let row : i < rows bytes 2 = rw (count-read bytes 1 (omega arith)) at h in
-        omega (arith, number-read bytes 1 i name.Gap (omega arith) row (omega (arith, listed-is 2, field-places .vl-gap)), vl-row bytes sound i row);
+    small = small;
   }
 
   pub network-read : networkOn (sheetOf (unpacked bytes)) ≡ networkIn bytes

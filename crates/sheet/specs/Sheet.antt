@@ -1,94 +1,48 @@
 -- The sheet: a network in memory, as one list of numbers: the header's, the counts of the five sections, and the lists of a table one
 -- after the other, each at its place whatever the counts are. Any list of numbers is a sheet. Assumes nothing.
-use Prim.Native.Nat.{ℕ, zero, suc, _+_, _-_, _*_, _%_, min}
+use Prim.Native.Nat.{ℕ, zero, suc, _+_, _*_, _%_, min}
 use mathlib.Core.List.{List, [], _∷_, _++_}
 use lib.Dec.{eqb}
-use lib.ListN.{getD}
+use lib.ListN.{length, getD}
+use Rattle.base.specs.Pick.{pick}
 use Rattle.base.specs.Tabulate.{tabulate}
-use Rattle.frame.specs.Tick.{perMs, perUnit, inForce}
-use Rattle.layout.specs.declared.Name.{Name}
-use Rattle.layout.specs.declared.Name.the-variants as name
-use Rattle.layout.specs.Names.{indexIn}
-use Rattle.layout.specs.Layout.{placeOf, headerNames}
+use Rattle.layout.specs.Layout.{headerNames}
 use Rattle.layout.specs.Limits.{most}
 use Rattle.layout.specs.Rows.{listed}
 use Rattle.layout.specs.Sizes.{capacity, countPlace, place}
-use Rattle.network.specs.declared.EndSystem.{EndSystem}
-use Rattle.network.specs.declared.Vl.{Vl}
-use Rattle.network.specs.declared.Stream.{Stream}
-use Rattle.network.specs.declared.Port.{Port}
-use Rattle.network.specs.declared.Hop.{Hop}
 use Rattle.network.specs.Network.{Network}
 use Rattle.network.specs.ReferenceFacts.{References}
 use Rattle.network.specs.Ranges.{Ranges}
 use Rattle.table.specs.Sections.{lent}
 use Rattle.table.specs.Lists.{Lists, listFor, recordsIn}
-use Rattle.table.specs.Decoded.{ticksAt, parentOf}
+use Rattle.table.specs.Decoded.{networkOf}
 use Rattle.sheet.specs.declared.Delays.{Delays}
 
--- ---- the network on a sheet: it holds the table's numbers, which the rules in force make ticks
--- the header's number of this name
-abbrev pub headerOn : List ℕ → Name → ℕ
-headerOn sheet n = getD sheet (indexIn headerNames n) 0
-
+-- ---- the network on a sheet: that of the lists which stand there
 -- how many records there are of a section: as the sheet says, and no more than it has room for
 unfoldable pub countOn : List ℕ → ℕ → ℕ
 countOn sheet section = min (getD sheet (countPlace section) 0) (most section)
 
--- the number of the field of this name, of record i of a section
-unfoldable pub numberOn : List ℕ → ℕ → ℕ → Name → ℕ
-numberOn sheet section i n = getD sheet (place section + i * listed section + placeOf section n) 0
+-- a number of a section as it is read: those of a VL are less than 2^16, so that its gap in ticks is a number of the code
+unfoldable pub readAs : ℕ → ℕ → ℕ
+readAs section n = pick (eqb section 2) (n % 65536) n
 
-unfoldable pub systemOn : List ℕ → ℕ → EndSystem
-systemOn sheet i = record { perbyte = ticksAt inForce (numberOn sheet 1 i name.Speed) }
+-- the list of a section that has so many records
+unfoldable pub listTo : (ℕ → ℕ) → List ℕ → ℕ → List ℕ
+listTo counts sheet section = tabulate (λ k. readAs section (getD sheet (place section + k) 0)) (counts section * listed section)
 
--- the milliseconds of a gap are less than 256
-unfoldable pub vlOn : List ℕ → ℕ → Vl
-vlOn sheet i = record {
-  system = numberOn sheet 2 i name.EndSystem;
-  gap = perMs * (numberOn sheet 2 i name.Gap % 256);
-  sublinks = numberOn sheet 2 i name.SubLinks;
-  lmax = numberOn sheet 2 i name.Lmax;
-}
-
-unfoldable pub streamOn : List ℕ → ℕ → Stream
-streamOn sheet i = record {
-  vl = numberOn sheet 3 i name.Vl;
-  sublink = numberOn sheet 3 i name.SubLink;
-  sampling = eqb (numberOn sheet 3 i name.Kind) 1;
-  size = numberOn sheet 3 i name.Size;
-  least = numberOn sheet 3 i name.LeastSize;
-  period = perUnit * numberOn sheet 3 i name.Period;
-  jitter = perUnit * numberOn sheet 3 i name.Jitter;
-}
-
-unfoldable pub portOn : List ℕ → ℕ → Port
-portOn sheet i = record {
-  perbyte = ticksAt inForce (numberOn sheet 4 i name.Speed);
-  least = perUnit * numberOn sheet 4 i name.SwitchLeast;
-  greatest = perUnit * numberOn sheet 4 i name.SwitchGreatest;
-}
-
-unfoldable pub hopOn : List ℕ → ℕ → Hop
-hopOn sheet i = record {
-  vl = numberOn sheet 5 i name.Vl;
-  port = numberOn sheet 5 i name.Port;
-  parent = parentOf (numberOn sheet 5 i name.Parent);
+unfoldable pub listsTo : (ℕ → ℕ) → List ℕ → Lists
+listsTo counts sheet = record {
+  header = tabulate (λ k. getD sheet k 0) (length headerNames);
+  systems = listTo counts sheet 1;
+  vls = listTo counts sheet 2;
+  streams = listTo counts sheet 3;
+  ports = listTo counts sheet 4;
+  hops = listTo counts sheet 5;
 }
 
 unfoldable pub networkOn : List ℕ → Network
-networkOn sheet = record {
-  tick = inForce;
-  sendLeast = perUnit * headerOn sheet name.SendLeast;
-  sendGreatest = perUnit * headerOn sheet name.SendGreatest;
-  receiveLeast = perUnit * headerOn sheet name.ReceiveLeast;
-  receiveGreatest = perUnit * headerOn sheet name.ReceiveGreatest;
-  systems = tabulate (systemOn sheet) (countOn sheet 1);
-  vls = tabulate (vlOn sheet) (countOn sheet 2);
-  streams = tabulate (streamOn sheet) (countOn sheet 3);
-  ports = tabulate (portOn sheet) (countOn sheet 4);
-  hops = tabulate (hopOn sheet) (countOn sheet 5);
-}
+networkOn sheet = networkOf (listsTo (countOn sheet) sheet)
 
 -- the delays of a network as one value
 abbrev pub delaysIn : Network → Delays

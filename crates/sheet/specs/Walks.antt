@@ -3,21 +3,20 @@
 use Prim.Native.Nat.{ℕ}
 use mathlib.Core.Bool.{Bool}
 use mathlib.Core.List.{List}
-use lib.Dec.{ltb}
-use Rattle.base.specs.Pick.{pick}
 use Rattle.base.specs.Tabulate.{tabulate}
 use Rattle.layout.specs.Limits.{most}
 use Rattle.network.specs.declared.Stream.{Stream}
 use Rattle.network.specs.declared.Hop.{Hop}
-use Rattle.network.specs.Network.{noStream, noHop}
+use Rattle.network.specs.Network.{streamAt, hopAt}
 use Rattle.network.specs.Views.{leaf}
-use Rattle.sheet.specs.Sheet.{streamOn, hopOn, networkOn}
+use Rattle.table.specs.Decoded.{networkOf}
+use Rattle.sheet.specs.Sheet.{listsTo, networkOn}
 
 unfoldable pub streamRow : List ℕ → ℕ → Stream
-streamRow sheet s = pick (ltb s (most 3)) (streamOn sheet s) noStream
+streamRow sheet s = streamAt (networkOf (listsTo most sheet)) s
 
 unfoldable pub hopRow : List ℕ → ℕ → Hop
-hopRow sheet h = pick (ltb h (most 5)) (hopOn sheet h) noHop
+hopRow sheet h = hopAt (networkOf (listsTo most sheet)) h
 
 -- "each hop .. that is nobody's parent"
 unfoldable pub leavesOn : List ℕ → List Bool

@@ -126,7 +126,9 @@ pub fn system_at(net: &[u64; SHEET], e: usize) -> EndSystem
     }
 }
 
-// A gap stands on the sheet in milliseconds, which are less than 256.
+// The numbers of a VL are read as less than this, so that its gap in ticks is a number of 64 bits.
+const VL_BELOW: u64 = 65_536;
+
 pub fn vl_at(net: &[u64; SHEET], v: usize) -> Vl
     ensures { λ r. ⌜ r ≡ vlAt (networkOn (now (net .entry))) v ⌝ }
 {
@@ -140,10 +142,10 @@ pub fn vl_at(net: &[u64; SHEET], v: usize) -> Vl
     }
     let at = sizes::VLS_AT + v * sizes::VL;
     Vl {
-        system: net[at + places::VL_SYSTEM] as usize,
-        gap: Tick::PER_MS * (net[at + places::VL_GAP] % 256),
-        sublinks: net[at + places::VL_SUBLINKS] as usize,
-        lmax: net[at + places::VL_LMAX],
+        system: (net[at + places::VL_SYSTEM] % VL_BELOW) as usize,
+        gap: Tick::PER_MS * (net[at + places::VL_GAP] % VL_BELOW),
+        sublinks: (net[at + places::VL_SUBLINKS] % VL_BELOW) as usize,
+        lmax: net[at + places::VL_LMAX] % VL_BELOW,
     }
 }
 
@@ -161,16 +163,7 @@ pub fn stream_at(net: &[u64; SHEET], s: usize) -> Stream
             jitter: 0,
         };
     }
-    let at = sizes::STREAMS_AT + s * sizes::STREAM;
-    Stream {
-        vl: net[at + places::STREAM_VL] as usize,
-        sublink: net[at + places::STREAM_SUBLINK] as usize,
-        sampling: is_sampling(net[at + places::STREAM_KIND]),
-        size: net[at + places::STREAM_SIZE],
-        least: net[at + places::STREAM_LEAST_SIZE],
-        period: net[at + places::STREAM_PERIOD],
-        jitter: net[at + places::STREAM_JITTER],
-    }
+    stream_row(net, s)
 }
 
 pub fn port_at(net: &[u64; SHEET], p: usize) -> Port
@@ -201,10 +194,5 @@ pub fn hop_at(net: &[u64; SHEET], h: usize) -> Hop
             parent: Parent::Root,
         };
     }
-    let at = sizes::HOPS_AT + h * sizes::HOP;
-    Hop {
-        vl: net[at + places::HOP_VL] as usize,
-        port: net[at + places::HOP_PORT] as usize,
-        parent: parent_of(net[at + places::HOP_PARENT]),
-    }
+    hop_row(net, h)
 }

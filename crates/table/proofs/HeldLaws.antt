@@ -1,20 +1,16 @@
 -- The numbers of a section's records are what the rows of the table mean, and so are in their ranges where the rows are good.
 -- Assumes nothing.
-use Prim.Native.Nat.{ℕ, _+_, _-_, _*_, _<_}
+use Prim.Native.Nat.{ℕ, _+_, _*_, _<_}
 use mathlib.Core.List.{List}
-use mathlib.Core.Path.{_≡_, sym, ap, _∙_}
 use native.Mathlib.Omega.{arith}
-use lib.ListN.{getD, drop}
-use lib.Seq.{getD-take, getD-drop}
 use Rattle.layout.specs.declared.Way.the-variants.{Reading}
 use Rattle.bits.specs.Tables.{Fit}
 use Rattle.layout.specs.Layout.{layout, widths, size}
-use Rattle.layout.specs.Rows.{converted, listed}
+use Rattle.layout.specs.Rows.{converted}
 use Rattle.layout.proofs.RoomLaws.{row-fits}
 use Rattle.layout.proofs.PlainLaws.{PlainEndSystem, end-system-plain, PlainVl, vl-plain, PlainStream, stream-plain, PlainPort, port-plain}
-use Rattle.table.specs.Sections.{version, kindIn, rows, from, row, recordOf, records}
+use Rattle.table.specs.Sections.{version, kindIn, rows, from, row}
 use Rattle.table.proofs.AnswerLaws.{Sound}
-use Rattle.table.proofs.SectionLaws.{record-at}
 use Rattle.table.proofs.UnpackLaws.{sound-rows}
 
 -- ---- the numbers of a section's records
@@ -23,16 +19,6 @@ module _ (bytes : List ℕ) where
   fit-row : (s i : ℕ) → Fit (widths (kindIn bytes s)) (row bytes s i)
   unfolding row
   fit-row s i = row-fits bytes (8 * (from bytes s + i * size (kindIn bytes s))) (kindIn bytes s)
-
-  pub record-number : (s n i k : ℕ) → i < n → k < listed s
-      → getD (records bytes s n) (i * listed s + k) 0 ≡ getD (converted Reading (layout (kindIn bytes s)) (row bytes s i)) k 0
-  unfolding recordOf
-  record-number s n i k h l =
-      let all = records bytes s n in
-      sym (getD-drop (i * listed s) all k 0)
-      ∙ sym (getD-take (listed s) (drop (i * listed s) all) k 0 l)
-      ∙ ap (λ (r : List ℕ). getD r k 0) (record-at bytes s n i h)
-      ∙ getD-take (listed s) (converted Reading (layout (kindIn bytes s)) (row bytes s i)) k 0 l
 
   -- ---- the rows in plain facts
   module _ (sound : Sound bytes) (i : ℕ) where

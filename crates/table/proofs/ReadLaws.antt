@@ -1,16 +1,18 @@
 -- What the reader's acceptance says of the network: every number is in 01's ranges, and every reference is good.
 -- Assumes nothing.
-use Prim.Native.Nat.{ℕ, zero, suc, _+_, _*_, _≤_, _<_}
+use Prim.Native.Nat.{ℕ, suc, _*_, _≤_, _<_}
 use mathlib.Core.List.{List}
 use mathlib.Core.Logic.{_⊎_, inl, inr, ⊎-elim}
 use mathlib.Core.Option.{Option, none, some, Option·some-ne-none}
 use mathlib.Core.Path.{_≡_, refl, ap, _∙_}
 use native.Mathlib.Omega.{arith}
 use borrow.Author.Tests.{eq-eqb, ne-eqb}
+use lib.ListN.{getD, take, drop}
+use lib.Seq.{getD-take}
 use Rattle.base.specs.Tests.{numberOr0}
 use Rattle.base.proofs.TestLaws.{no-row-was}
 use Rattle.frame.specs.Tick.{perMs, inForce}
-use Rattle.frame.proofs.TickLaws.{per-byte-at-100, per-byte-at-10}
+use Rattle.frame.proofs.TickLaws.{per-unit-is, per-byte-at-100, per-byte-at-10}
 use Rattle.frame.proofs.GapLaws.{ms-back, gap-in-ms, gap-bounds}
 use Rattle.layout.specs.declared.Way.the-variants.{Reading}
 use Rattle.layout.specs.declared.Name.{Name}
@@ -28,16 +30,17 @@ use Rattle.network.specs.Ranges.{SpeedRange, VlRange, StreamRange, PortRange, R
 use Rattle.network.proofs.ReferenceLaws.{references-hold}
 use Rattle.table.specs.declared.Answer.{Answer}
 use Rattle.table.specs.Answers.{accepted}
-use Rattle.table.specs.Sections.{headerRow, kindIn, rows, row}
-use Rattle.table.specs.Lists.{listFor, recordsIn, headerOf, unpacked}
-use Rattle.table.specs.Decoded.{numberAt, ticksAt}
+use Rattle.table.specs.Sections.{headerRow, kindIn, rows, row, recordOf}
+use Rattle.table.specs.Lists.{recordsIn, recordAt, headerOf, unpacked}
+use Rattle.table.specs.Decoded.{ticksAt, systemIn, vlIn, streamIn, portIn}
 use Rattle.table.specs.Read.{networkIn, badRefSection, answerAtReference, answer5, readAnswer}
 use Rattle.table.proofs.AnswerLaws.{Sound, unpack-was}
+use Rattle.table.proofs.SectionLaws.{record-at}
 use Rattle.table.proofs.WriteLaws.{count}
-use Rattle.table.proofs.UnpackLaws.{count-is}
-use Rattle.table.proofs.DecodedLaws.{rules-are, send-least, send-greatest, receive-least, receive-greatest, systems-are, vls-are, streams-are, ports-are, hops-are, system-per-byte, vl-gap, vl-sub-links, vl-lmax, stream-size, stream-least-size, stream-period, stream-jitter, port-per-byte, port-delay-least, port-delay-greatest}
+use Rattle.table.proofs.UnpackLaws.{list-is, count-is}
+use Rattle.table.proofs.DecodedLaws.{rules-are, send-least, send-greatest, receive-least, receive-greatest, systems-are, vls-are, streams-are, ports-are, hops-are, system-there, vl-there, stream-there, port-there}
 use Rattle.table.proofs.ReadingLaws.{few, readersLengths, readers-roomy, read-accepts}
-use Rattle.table.proofs.HeldLaws.{record-number, system-row, vl-row, stream-row, port-row}
+use Rattle.table.proofs.HeldLaws.{system-row, vl-row, stream-row, port-row}
 
 -- ---- 5 is not given
 no-bad-section : (net : Network) → answer5 net ≡ none → (s : ℕ) → 2 ≤ s → s < 6 → badReference net s ≡ none
@@ -63,15 +66,18 @@ module _ (bytes : List ℕ) where
   unfolding count
   count-read s h = count-is bytes (suc s) h
 
+  pub record-read : (s i k : ℕ) → suc s < 6 → i < rows bytes (suc s) → k < listed (suc s)
+      → getD (recordAt (unpacked bytes) (suc s) i) k 0 ≡ getD (converted Reading (layout (kindIn bytes (suc s))) (row bytes (suc s) i)) k 0
+  unfolding recordOf
+  record-read s i k h l m =
+      ap (λ (ns : List ℕ). getD (take (listed (suc s)) (drop (i * listed (suc s)) ns)) k 0) (list-is bytes s h)
+      ∙ ap (λ (r : List ℕ). getD r k 0) (record-at bytes (suc s) (rows bytes (suc s)) i l)
+      ∙ getD-take (listed (suc s)) (converted Reading (layout (kindIn bytes (suc s))) (row bytes (suc s) i)) k 0 m
+
   pub number-read : (s i : ℕ) (n : Name) → suc s < 6 → i < rows bytes (suc s) → placeOf (suc s) n < listed (suc s)
-      → numberAt (unpacked bytes) (suc s) i n ≡ named (suc s) (converted Reading (layout (kindIn bytes (suc s))) (row bytes (suc s) i)) n
-  unfolding numberAt named listFor unpacked
-  number-read zero i n h l m = record-number bytes 1 (rows bytes 1) i (placeOf 1 n) l m
-  number-read (suc zero) i n h l m = record-number bytes 2 (rows bytes 2) i (placeOf 2 n) l m
-  number-read (suc (suc zero)) i n h l m = record-number bytes 3 (rows bytes 3) i (placeOf 3 n) l m
-  number-read (suc (suc (suc zero))) i n h l m = record-number bytes 4 (rows bytes 4) i (placeOf 4 n) l m
-  number-read (suc (suc (suc (suc zero)))) i n h l m = record-number bytes 5 (rows bytes 5) i (placeOf 5 n) l m
-  number-read (suc (suc (suc (suc (suc s))))) i n h l m = absurd (omega arith)
+      → named (suc s) (recordAt (unpacked bytes) (suc s) i) n ≡ named (suc s) (converted Reading (layout (kindIn bytes (suc s))) (row bytes (suc s) i)) n
+  unfolding named
+  number-read s i n = record-read s i (placeOf (suc s) n)
 
 -- ---- the ranges
 speed : (mbit : ℕ) → (mbit ≡ 100) ⊎ (mbit ≡ 10) → SpeedRange (ticksAt inForce mbit)
@@ -82,26 +88,21 @@ speed mbit = ⊎-elim
 
 module _ (bytes : List ℕ) (sound : Sound bytes) (i : ℕ) where
   system-range : i < rows bytes 1 → SpeedRange (systemAt (networkIn bytes) i .perbyte)
-  unfolding networkIn
+  unfolding networkIn systemIn
   system-range h =
-      let at = count-read bytes 0 (omega arith) in
-      rw (system-per-byte (unpacked bytes) i (omega arith), number-read bytes 0 i name.Speed (omega arith) h (omega (arith, listed-is 1, field-places .system-speed)))
+      rw (system-there (unpacked bytes) i (omega (arith, count-read bytes 0 (omega arith))), number-read bytes 0 i name.Speed (omega arith) h (omega (arith, listed-is 1, field-places .system-speed)))
       (speed _ (system-row bytes sound i h .speed))
 
   vl-range : i < rows bytes 2 → VlRange (vlAt (networkIn bytes) i)
-  unfolding networkIn
+  unfolding networkIn vlIn
   vl-range h =
-      let at : i < recordsIn (unpacked bytes) 2 = omega (arith, count-read bytes 1 (omega arith)) in
-      let all = listed-is 2 in
-      let number : (n : Name) → placeOf 2 n < listed 2 → numberAt (unpacked bytes) 2 i n ≡ named 2 (converted Reading (layout (kindIn bytes 2)) (row bytes 2 i)) n
-      = λ n l. number-read bytes 1 i n (omega arith) h l in
       let p = vl-row bytes sound i h in
-      let gap = vl-gap (unpacked bytes) i at ∙ ap (λ (ms : ℕ). perMs * ms) (number name.Gap (omega (arith, field-places .vl-gap))) in
+      let gap = ap (λ (ms : ℕ). perMs * ms) (number-read bytes 1 i name.Gap (omega arith) h (omega (arith, listed-is 2, field-places .vl-gap))) in
       let stored = gap-in-ms (p .code) _ (ms-back _ (p .code) (p .gap)) in
       let bounds = gap-bounds (p .code) _ stored in
-      let links = vl-sub-links (unpacked bytes) i at ∙ number name.SubLinks (omega (arith, field-places .vl-sub-links)) in
-      let lmax = vl-lmax (unpacked bytes) i at ∙ number name.Lmax (omega (arith, field-places .vl-lmax)) in
-      record {
+      let links = number-read bytes 1 i name.SubLinks (omega arith) h (omega (arith, listed-is 2, field-places .vl-sub-links)) in
+      let lmax = number-read bytes 1 i name.Lmax (omega arith) h (omega (arith, listed-is 2, field-places .vl-lmax)) in
+      rw (vl-there (unpacked bytes) i (omega (arith, count-read bytes 1 (omega arith)))) record {
         code = p .code;
         gap = rw gap stored;
         gap-least = rw gap (bounds .0);
@@ -113,18 +114,14 @@ module _ (bytes : List ℕ) (sound : Sound bytes) (i : ℕ) where
       }
 
   stream-range : i < rows bytes 3 → StreamRange (streamAt (networkIn bytes) i)
-  unfolding networkIn
+  unfolding networkIn streamIn
   stream-range h =
-      let at : i < recordsIn (unpacked bytes) 3 = omega (arith, count-read bytes 2 (omega arith)) in
-      let all = listed-is 3 in
-      let number : (n : Name) → placeOf 3 n < listed 3 → numberAt (unpacked bytes) 3 i n ≡ named 3 (converted Reading (layout (kindIn bytes 3)) (row bytes 3 i)) n
-      = λ n l. number-read bytes 2 i n (omega arith) h l in
       let p = stream-row bytes sound i h in
-      let size = stream-size (unpacked bytes) i at ∙ number name.Size (omega (arith, field-places .stream-size)) in
-      let least = stream-least-size (unpacked bytes) i at ∙ number name.LeastSize (omega (arith, field-places .stream-least-size)) in
-      let period = stream-period (unpacked bytes) i at ∙ number name.Period (omega (arith, field-places .stream-period)) in
-      let jitter = stream-jitter (unpacked bytes) i at ∙ number name.Jitter (omega (arith, field-places .stream-jitter)) in
-      record {
+      let size = number-read bytes 2 i name.Size (omega arith) h (omega (arith, listed-is 3, field-places .stream-size)) in
+      let least = number-read bytes 2 i name.LeastSize (omega arith) h (omega (arith, listed-is 3, field-places .stream-least-size)) in
+      let period = per-unit-is _ ∙ number-read bytes 2 i name.Period (omega arith) h (omega (arith, listed-is 3, field-places .stream-period)) in
+      let jitter = per-unit-is _ ∙ number-read bytes 2 i name.Jitter (omega arith) h (omega (arith, listed-is 3, field-places .stream-jitter)) in
+      rw (stream-there (unpacked bytes) i (omega (arith, count-read bytes 2 (omega arith)))) record {
         least-size-least = rw least (p .least-m-least);
         least-size-greatest = rw (least, size) (p .least-m-greatest);
         size-greatest = rw size (p .m-greatest);
@@ -134,17 +131,13 @@ module _ (bytes : List ℕ) (sound : Sound bytes) (i : ℕ) where
       }
 
   port-range : i < rows bytes 4 → PortRange (portAt (networkIn bytes) i)
-  unfolding networkIn
+  unfolding networkIn portIn
   port-range h =
-      let at : i < recordsIn (unpacked bytes) 4 = omega (arith, count-read bytes 3 (omega arith)) in
-      let all = listed-is 4 in
-      let number : (n : Name) → placeOf 4 n < listed 4 → numberAt (unpacked bytes) 4 i n ≡ named 4 (converted Reading (layout (kindIn bytes 4)) (row bytes 4 i)) n
-      = λ n l. number-read bytes 3 i n (omega arith) h l in
       let p = port-row bytes sound i h in
-      let least = port-delay-least (unpacked bytes) i at ∙ number name.SwitchLeast (omega (arith, field-places .port-least)) in
-      let greatest = port-delay-greatest (unpacked bytes) i at ∙ number name.SwitchGreatest (omega (arith, field-places .port-greatest)) in
-      record {
-        per-byte = rw (port-per-byte (unpacked bytes) i at, number name.Speed (omega (arith, field-places .port-speed))) (speed _ (p .speed));
+      let least = per-unit-is _ ∙ number-read bytes 3 i name.SwitchLeast (omega arith) h (omega (arith, listed-is 4, field-places .port-least)) in
+      let greatest = per-unit-is _ ∙ number-read bytes 3 i name.SwitchGreatest (omega arith) h (omega (arith, listed-is 4, field-places .port-greatest)) in
+      rw (port-there (unpacked bytes) i (omega (arith, count-read bytes 3 (omega arith)))) record {
+        per-byte = rw (number-read bytes 3 i name.Speed (omega arith) h (omega (arith, listed-is 4, field-places .port-speed))) (speed _ (p .speed));
         delay-least = rw (least, greatest) (p .delay-least);
         delay-greatest = rw greatest (p .delay-greatest);
       }

@@ -29,7 +29,7 @@ pub record Again (bytes : List ℕ) (s i : ℕ) : Type 0 where
 
 module _ (bytes : List ℕ) where
   -- ---- the counts
-  list-is : (s : ℕ) → suc s < 6 → listFor (unpacked bytes) (suc s) ≡ records bytes (suc s) (rows bytes (suc s))
+  pub list-is : (s : ℕ) → suc s < 6 → listFor (unpacked bytes) (suc s) ≡ records bytes (suc s) (rows bytes (suc s))
   unfolding listFor unpacked
   list-is zero h = refl
   list-is (suc zero) h = refl
@@ -38,7 +38,7 @@ module _ (bytes : List ℕ) where
   list-is (suc (suc (suc (suc zero)))) h = refl
   list-is (suc (suc (suc (suc (suc s))))) h = absurd (omega arith)
 
-  length-list : (s : ℕ) → suc s < 6 → length (listFor (unpacked bytes) (suc s)) ≡ rows bytes (suc s) * listed (suc s)
+  pub length-list : (s : ℕ) → suc s < 6 → length (listFor (unpacked bytes) (suc s)) ≡ rows bytes (suc s) * listed (suc s)
   length-list s h = ap length (list-is s h) ∙ length-records bytes (suc s) (rows bytes (suc s))
 
   pub count-is : (s : ℕ) → s < 6 → count (unpacked bytes) s ≡ rows bytes s

@@ -1,16 +1,14 @@
 -- The network that lists of numbers describe, by the rules of a tick: milliseconds, Mbit/s and the table's units become ticks, and a
 -- parent's row + 1 becomes its row. Assumes nothing.
-use Prim.Native.Nat.{ℕ, zero, suc, _+_, _*_}
+use Prim.Native.Nat.{ℕ, zero, suc, _*_}
+use mathlib.Core.List.{List}
 use lib.Dec.{eqb}
-use lib.ListN.{getD}
 use Rattle.base.specs.Pick.{pick}
 use Rattle.base.specs.Tabulate.{tabulate}
 use Rattle.frame.specs.Tick.{TickRules, inForce}
 use Rattle.frame.specs.declared.Speed.the-variants.{Mbit100, Mbit10}
-use Rattle.layout.specs.declared.Name.{Name}
 use Rattle.layout.specs.declared.Name.the-variants as name
-use Rattle.layout.specs.Layout.{placeOf}
-use Rattle.layout.specs.Rows.{listed}
+use Rattle.layout.specs.Rows.{named}
 use Rattle.network.specs.declared.EndSystem.{EndSystem}
 use Rattle.network.specs.declared.Vl.{Vl}
 use Rattle.network.specs.declared.Stream.{Stream}
@@ -19,11 +17,7 @@ use Rattle.network.specs.declared.Hop.{Hop}
 use Rattle.network.specs.declared.Parent.{Parent}
 use Rattle.network.specs.declared.Parent.the-variants.{Root, After}
 use Rattle.network.specs.Network.{Network}
-use Rattle.table.specs.Lists.{Lists, listFor, recordsIn, headerAt}
-
--- the number of the field of this name, of record i of a section's list
-unfoldable pub numberAt : Lists → ℕ → ℕ → Name → ℕ
-numberAt ls section i n = getD (listFor ls section) (i * listed section + placeOf section n) 0
+use Rattle.table.specs.Lists.{Lists, recordsIn, recordAt, headerAt}
 
 -- the ticks that a byte takes at a speed of 100 or 10 Mbit/s
 unfoldable pub ticksAt : TickRules → ℕ → ℕ
@@ -34,39 +28,41 @@ unfoldable pub parentOf : ℕ → Parent
 parentOf zero = Root
 parentOf (suc g) = After g
 
-unfoldable pub systemIn : TickRules → Lists → ℕ → EndSystem
-systemIn tick ls i = record { perbyte = ticksAt tick (numberAt ls 1 i name.Speed) }
+-- ---- a record from its numbers
+unfoldable pub systemIn : TickRules → List ℕ → EndSystem
+systemIn tick r = record { perbyte = ticksAt tick (named 1 r name.Speed) }
 
-unfoldable pub vlIn : TickRules → Lists → ℕ → Vl
-vlIn tick ls i = record {
-  system = numberAt ls 2 i name.EndSystem;
-  gap = tick .perMs * numberAt ls 2 i name.Gap;
-  sublinks = numberAt ls 2 i name.SubLinks;
-  lmax = numberAt ls 2 i name.Lmax;
+unfoldable pub vlIn : TickRules → List ℕ → Vl
+vlIn tick r = record {
+  system = named 2 r name.EndSystem;
+  gap = tick .perMs * named 2 r name.Gap;
+  sublinks = named 2 r name.SubLinks;
+  lmax = named 2 r name.Lmax;
 }
 
-unfoldable pub streamIn : TickRules → Lists → ℕ → Stream
-streamIn tick ls i = record {
-  vl = numberAt ls 3 i name.Vl;
-  sublink = numberAt ls 3 i name.SubLink;
+unfoldable pub streamIn : TickRules → List ℕ → Stream
+streamIn tick r = record {
+  vl = named 3 r name.Vl;
+  sublink = named 3 r name.SubLink;
   -- "kind 1 (1: sampling)"
-  sampling = eqb (numberAt ls 3 i name.Kind) 1;
-  size = numberAt ls 3 i name.Size;
-  least = numberAt ls 3 i name.LeastSize;
-  period = tick .perUnit * numberAt ls 3 i name.Period;
-  jitter = tick .perUnit * numberAt ls 3 i name.Jitter;
+  sampling = eqb (named 3 r name.Kind) 1;
+  size = named 3 r name.Size;
+  least = named 3 r name.LeastSize;
+  period = tick .perUnit * named 3 r name.Period;
+  jitter = tick .perUnit * named 3 r name.Jitter;
 }
 
-unfoldable pub portIn : TickRules → Lists → ℕ → Port
-portIn tick ls i = record {
-  perbyte = ticksAt tick (numberAt ls 4 i name.Speed);
-  least = tick .perUnit * numberAt ls 4 i name.SwitchLeast;
-  greatest = tick .perUnit * numberAt ls 4 i name.SwitchGreatest;
+unfoldable pub portIn : TickRules → List ℕ → Port
+portIn tick r = record {
+  perbyte = ticksAt tick (named 4 r name.Speed);
+  least = tick .perUnit * named 4 r name.SwitchLeast;
+  greatest = tick .perUnit * named 4 r name.SwitchGreatest;
 }
 
-unfoldable pub hopIn : Lists → ℕ → Hop
-hopIn ls i = record { vl = numberAt ls 5 i name.Vl; port = numberAt ls 5 i name.Port; parent = parentOf (numberAt ls 5 i name.Parent) }
+unfoldable pub hopIn : List ℕ → Hop
+hopIn r = record { vl = named 5 r name.Vl; port = named 5 r name.Port; parent = parentOf (named 5 r name.Parent) }
 
+-- ---- the network of all records
 unfoldable pub networkAt : TickRules → Lists → Network
 networkAt tick ls = record {
   tick = tick;
@@ -74,11 +70,11 @@ networkAt tick ls = record {
   sendGreatest = tick .perUnit * headerAt ls name.SendGreatest;
   receiveLeast = tick .perUnit * headerAt ls name.ReceiveLeast;
   receiveGreatest = tick .perUnit * headerAt ls name.ReceiveGreatest;
-  systems = tabulate (systemIn tick ls) (recordsIn ls 1);
-  vls = tabulate (vlIn tick ls) (recordsIn ls 2);
-  streams = tabulate (streamIn tick ls) (recordsIn ls 3);
-  ports = tabulate (portIn tick ls) (recordsIn ls 4);
-  hops = tabulate (hopIn ls) (recordsIn ls 5);
+  systems = tabulate (λ i. systemIn tick (recordAt ls 1 i)) (recordsIn ls 1);
+  vls = tabulate (λ i. vlIn tick (recordAt ls 2 i)) (recordsIn ls 2);
+  streams = tabulate (λ i. streamIn tick (recordAt ls 3 i)) (recordsIn ls 3);
+  ports = tabulate (λ i. portIn tick (recordAt ls 4 i)) (recordsIn ls 4);
+  hops = tabulate (λ i. hopIn (recordAt ls 5 i)) (recordsIn ls 5);
 }
 
 -- by the rules in force

@@ -1,8 +1,8 @@
 -- The six lists of numbers that a table is unpacked to and written from: the header's, and the records of each section.
 -- The version stands in the header's list, so that it travels with them. Assumes nothing.
-use Prim.Native.Nat.{ℕ, _/_}
+use Prim.Native.Nat.{ℕ, _*_, _/_}
 use mathlib.Core.List.{List, [], _∷_, map}
-use lib.ListN.{length, getD}
+use lib.ListN.{length, getD, take, drop}
 use Rattle.layout.specs.declared.Name.{Name}
 use Rattle.layout.specs.declared.Name.the-variants as name
 use Rattle.layout.specs.declared.Way.the-variants.{Reading}
@@ -26,6 +26,10 @@ listFor ls section = getD ([] ∷ ls .systems ∷ ls .vls ∷ ls .streams ∷ ls
 -- "takes its counts from its lists"
 unfoldable pub recordsIn : Lists → ℕ → ℕ
 recordsIn ls section = length (listFor ls section) / listed section
+
+-- record i of a section's list, as its numbers
+abbrev pub recordAt : Lists → ℕ → ℕ → List ℕ
+recordAt ls section i = take (listed section) (drop (i * listed section) (listFor ls section))
 
 -- the header's number of this name
 abbrev pub headerAt : Lists → Name → ℕ

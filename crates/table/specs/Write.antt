@@ -6,7 +6,7 @@ use mathlib.Core.List.{List, [], _∷_, _++_}
 use mathlib.Core.Option.{Option, none, some}
 use mathlib.Core.Path.{_≡_}
 use lib.Dec.{leb, eqb}
-use lib.ListN.{length, take, drop, replicate}
+use lib.ListN.{length, replicate}
 use Rattle.base.specs.Pick.{pick}
 use Rattle.base.specs.Least.{leastFrom}
 use Rattle.bits.specs.Rows.{Section, putTable}
@@ -19,7 +19,7 @@ use Rattle.table.specs.declared.Answer.{Answer}
 use Rattle.table.specs.declared.Written.{Written}
 use Rattle.table.specs.Answers.{answer, firstGiven}
 use Rattle.table.specs.Sections.{lent}
-use Rattle.table.specs.Lists.{Lists, listFor, recordsIn, headerAt, kindFor}
+use Rattle.table.specs.Lists.{Lists, recordsIn, recordAt, headerAt, kindFor}
 
 -- the header that the lists ask for: the version, the counts, the delays, and padding
 unfoldable pub headerFor : Lists → List ℕ
@@ -39,9 +39,7 @@ headerFor ls =
 
 -- record i of a section, with padding of zero where it has padding
 unfoldable pub meantRow : Lists → ℕ → ℕ → List ℕ
-meantRow ls section i =
-    take (listed section) (drop (i * listed section) (listFor ls section))
-    ++ replicate (length (layout (kindFor ls section)) - listed section) 0
+meantRow ls section i = recordAt ls section i ++ replicate (length (layout (kindFor ls section)) - listed section) 0
 
 -- every list is a whole number of records: five numbers of the header, and for a section a multiple of its numbers (an end
 -- system is one number, so any list of them is whole)

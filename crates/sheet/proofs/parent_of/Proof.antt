@@ -1,6 +1,6 @@
 -- `sheet::parent_of` meets its contract: 0 is no parent, and another number the row before it.
 -- Assumes nothing.
-use Prim.Native.Nat.{ℕ, suc, _-_}
+use Prim.Native.Nat.{suc, _-_}
 use mathlib.Core.Path.{_≡_, sym, ap}
 use native.Mathlib.Omega.{arith}
 use Rattle.table.specs.Decoded.{parentOf}

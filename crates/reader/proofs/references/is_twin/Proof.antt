@@ -4,7 +4,6 @@ use mathlib.Core.Path.{sym, ap, _∙_}
 use Rattle.network.specs.declared.Hop.{Hop}
 use Rattle.sheet.specs.Sheet.{networkOn}
 use Rattle.reader.proofs.ReferringLaws.{twin-by-port, no-twin}
-use Rattle.network.specs.Network.{hopAt}
 use borrow.Author.Needs.{needs}
 use Rattle.reader.proofs.references.is_twin.Statement.{statement}
 use Rattle.reader.proofs.references.is_twin.Tie as tie

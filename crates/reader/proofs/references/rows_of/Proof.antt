@@ -2,7 +2,6 @@
 -- Assumes nothing.
 use mathlib.Core.Path.{_≡_, sym, ap, _∙_}
 use native.Mathlib.Omega.{arith}
-use Prim.Native.Nat.{ℕ}
 use Rattle.network.specs.References.{namingRows}
 use Rattle.network.proofs.TestsAre.{rows-are}
 use Rattle.sheet.specs.Sheet.{networkOn}

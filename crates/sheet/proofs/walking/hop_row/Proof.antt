@@ -1,23 +1,24 @@
 -- `sheet::walking::hop_row` meets its contract: hop h is the three numbers of its record, of which the last is 0 at a root and else the row behind the parent.
 -- Assumes nothing.
-use mathlib.Core.Path.{_∙_}
 use native.Mathlib.Omega.{arith}
-use Rattle.layout.proofs.LayoutLaws.{listed-is}
-use Rattle.layout.proofs.SizeLaws.{places-are}
-use Rattle.sheet.proofs.SheetLaws.{hop-stored}
-use Rattle.sheet.proofs.WalkLaws.{hop-row-past, hop-row-is}
+use Rattle.layout.specs.Limits.{most}
+use Rattle.layout.proofs.SizeLaws.{most-are, places-are}
+use Rattle.network.specs.Network.{noHop}
+use Rattle.table.specs.Decoded.{networkOf}
+use Rattle.sheet.specs.Sheet.{listsTo}
+use Rattle.sheet.specs.Walks.{hopRow}
+use Rattle.sheet.proofs.SheetLaws.{hop-read, past, hops-to}
 use borrow.Author.Needs.{needs}
 use Rattle.sheet.proofs.walking.hop_row.Statement.{statement}
 use Rattle.sheet.proofs.walking.hop_row.Tie as tie
 
 returns : tie.Need-returns
-returns c = let a = c .before .args in hop-row-past (a .net .now) (a .h) (omega arith)
+unfolding hopRow
+returns c = let a = c .before .args in past (networkOf (listsTo most (a .net .now)) .hops) noHop (a .h) (omega (arith, hops-to most (a .net .now), most-are .hops))
 
 returns-2 : tie.Need-returns-2
-returns-2 c =
-    let a = c .before .before .before .before .before .args in
-    hop-stored (a .net .now) _ _ (places-are .hops) (listed-is 5) (a .h) (c .parent-of .result) (c .parent-of .ensures)
-    ∙ hop-row-is (a .net .now) (a .h) (omega arith)
+unfolding hopRow
+returns-2 c = let a = c .before .before .before .before .before .args in hop-read most (a .net .now) (a .h) _ _ (places-are .hops) (rw (most-are .hops) (omega arith)) (c .parent-of .ensures)
 
 pub hop-row-spec : {M : Type 1} → statement M
 hop-row-spec =
