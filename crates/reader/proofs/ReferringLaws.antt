@@ -1,9 +1,11 @@
 -- The tests of references over a network: each comparison of the code, as the named test that it decides and the answer of the row.
 -- Assumes nothing.
 use Prim.Native.Nat.{ℕ, _≤_, _<_}
-use mathlib.Core.Bool.{true, false}
+use mathlib.Core.Bool.{true, false, _&&_}
 use mathlib.Core.Option.{none, some}
-use mathlib.Core.Path.{_≡_, sym, _∙_}
+use mathlib.Core.List.{List}
+use mathlib.Core.Path.{_≡_, sym, ap₂, _∙_}
+use native.Mathlib.Omega.{arith}
 use borrow.Author.Tests.{lt-ltb, le-ltb, eq-eqb, ne-eqb}
 use lib.Dec.{eqb}
 use lib.ListN.{length}
@@ -11,8 +13,12 @@ use Rattle.network.specs.Network.{Network, vlAt, streamAt, hopAt, parentAt}
 use Rattle.network.specs.References.{hasHop, parentEarlier, twinOf, refFault}
 use Rattle.network.proofs.ReferenceTests.{has-hop}
 use Rattle.network.proofs.ReferenceLaws.{vl-row, stream-row}
-use Rattle.network.proofs.TestsAre.{names-system-is, stream-names-vl-is, names-sub-link-is, twin-is, no-parent-earlier, parent-earlier-is, no-parent-same-vl, parent-same-vl-is, no-parent-lower, parent-lower-is, no-hop, vl-fails-0, vl-fails-1, stream-fails-0, stream-fails-1}
+use Rattle.network.proofs.TestsAre.{names-system-is, stream-names-vl-is, names-sub-link-is, no-parent-earlier, parent-earlier-is, no-parent-same-vl, parent-same-vl-is, no-parent-lower, parent-lower-is, no-hop, vl-fails-0, vl-fails-1, stream-fails-0, stream-fails-1}
 use Rattle.table.specs.Answers.{answer, accepted}
+use Rattle.network.specs.declared.Hop.{Hop}
+use Rattle.sheet.specs.Sheet.{networkOn}
+use Rattle.sheet.specs.Walks.{hopRow}
+use Rattle.sheet.proofs.WalkLaws.{hop-row}
 use Rattle.reader.specs.Referring.{rowAnswer, parentFault}
 
 -- ---- the answer of a row from its first failing test
@@ -84,10 +90,9 @@ module _ (net : Network) where
           unfolding parentFault
           parent-good low = rw (earlier, parent-same-vl-is net h g is ∙ eq-eqb _ _ same, parent-lower-is net h g is ∙ lt-ltb _ _ low)
 
-    -- ---- twins
-    module _ (g : ℕ) where
-      pub twin-by-port : hopAt net g .vl ≡ hopAt net h .vl → eqb (hopAt net g .port) (hopAt net h .port) ≡ twinOf net h g
-      twin-by-port e = sym (twin-is net h g ∙ rw (eq-eqb _ _ e))
-
-      pub no-twin : (hopAt net g .vl ≡ hopAt net h .vl → ⊥) → false ≡ twinOf net h g
-      no-twin e = sym (twin-is net h g ∙ rw (ne-eqb _ _ e))
+-- ---- twins, as they are read in a walk
+pub twin-read : (sheet : List ℕ) (h g : ℕ) → h < length (networkOn sheet .hops) → g < h → (hop other : Hop) → hop ≡ hopRow sheet h → other ≡ hopRow sheet g
+    → eqb (other .vl) (hop .vl) && eqb (other .port) (hop .port) ≡ twinOf (networkOn sheet) h g
+unfolding twinOf
+twin-read sheet h g row early hop other e f =
+    ap₂ (λ (x y : Hop). eqb (y .vl) (x .vl) && eqb (y .port) (x .port)) (e ∙ hop-row sheet h row) (f ∙ hop-row sheet g (omega arith))

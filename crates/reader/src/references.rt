@@ -2,14 +2,16 @@
 // A record past the last row is one of zeros, so that each test stands for every row.
 use frame::Reply;
 use layout::sizes::SHEET;
+use network::Hop;
 use network::Parent;
 use table::Answer;
 ghost use Prim.Native.Nat.{_<_};
+ghost use mathlib.Core.Bool.{_&&_};
 ghost use mathlib.Core.List.{[], _∷_};
 ghost use mathlib.Core.Path.{_≡_};
-ghost use lib.Dec.{ltb};
+ghost use lib.Dec.{ltb, eqb};
 ghost use lib.ListN.{length};
-ghost use Rattle.network.specs.References.{hasHop, twinOf, noEarlierTwin, notTooDeep, namingRows, oneSample};
+ghost use Rattle.network.specs.References.{hasHop, noEarlierTwin, notTooDeep, namingRows, oneSample};
 ghost use Rattle.network.specs.Ranges.{Ranges};
 ghost use Rattle.sheet.specs.Sheet.{networkOn};
 ghost use Rattle.table.specs.Answers.{answer, accepted, firstGiven};
@@ -45,7 +47,7 @@ fn has_hop(net: &[u64; SHEET], v: usize) -> bool
     let n = sheet::hops_in(net);
     let mut h = 0;
     while h < n {
-        let hop = sheet::hop_at(net, h);
+        let hop = sheet::hop_row(net, h);
         if hop.vl == v {
             return true;
         }
@@ -105,11 +107,9 @@ fn parent_fault(net: &[u64; SHEET], h: usize) -> u64
     0
 }
 
-fn is_twin(net: &[u64; SHEET], h: usize, g: usize) -> bool
-    ensures { λ r. ⌜ r ≡ twinOf (networkOn (now (net .entry))) h g ⌝ }
+fn is_twin(hop: Hop, other: Hop) -> bool
+    ensures { λ r. ⌜ r ≡ eqb (other .vl) (hop .vl) && eqb (other .port) (hop .port) ⌝ }
 {
-    let hop = sheet::hop_at(net, h);
-    let other = sheet::hop_at(net, g);
     if other.vl == hop.vl {
         return other.port == hop.port;
     }
@@ -117,11 +117,14 @@ fn is_twin(net: &[u64; SHEET], h: usize, g: usize) -> bool
 }
 
 fn no_earlier_twin(net: &[u64; SHEET], h: usize) -> bool
+    requires { ⌜ h < length (networkOn (now net) .hops) ⌝ }
     ensures { λ r. ⌜ r ≡ noEarlierTwin (networkOn (now (net .entry))) h ⌝ }
 {
+    let hop = sheet::hop_row(net, h);
     let mut g = 0;
     while g < h {
-        if is_twin(net, h, g) {
+        let other = sheet::hop_row(net, g);
+        if is_twin(hop, other) {
             return false;
         }
         g += 1;
@@ -147,6 +150,7 @@ fn not_too_deep(net: &[u64; SHEET], h: usize) -> bool
 }
 
 fn hop_answer(net: &[u64; SHEET], h: usize) -> Answer
+    requires { ⌜ h < length (networkOn (now net) .hops) ⌝ }
     ensures { λ r. ⌜ r ≡ rowAnswer (networkOn (now (net .entry))) 5 h ⌝ }
 {
     let hop = sheet::hop_at(net, h);

@@ -7,6 +7,7 @@ use borrow.Author.Count.{below-more}
 use Rattle.network.specs.declared.Hop.{Hop}
 use Rattle.network.specs.Network.{hopAt}
 use Rattle.sheet.specs.Sheet.{networkOn}
+use Rattle.sheet.proofs.WalkLaws.{hop-row}
 use Rattle.reader.proofs.ReferringLaws.{has-hop-yes, has-hop-no}
 use borrow.Author.Needs.{needs}
 use Rattle.reader.proofs.references.has_hop.Statement.{statement}
@@ -24,10 +25,16 @@ loop-holds c = (omega arith, (λ k l. absurd (omega arith)))
 returns : tie.Need-returns Inv-loop μ-loop
 returns c =
     let a = c .before .before .before .before .before .before .args in
-    has-hop-yes (networkOn (a .net .now)) (a .v) (c .before .before .before .before .loop .h) (omega arith) (ap (λ (x : Hop). x .vl) (sym (c .before .before .hop-at .ensures)) ∙ c .if1 .taken)
+    let l = c .before .before .before .before .loop in
+    let hop = c .before .before .hop-row .ensures ∙ hop-row (a .net .now) (l .h) (omega arith) in
+    has-hop-yes (networkOn (a .net .now)) (a .v) (l .h) (omega arith) (ap (λ (x : Hop). x .vl) (sym hop) ∙ c .if1 .taken)
 
 loop-again : tie.Need-loop-again Inv-loop μ-loop
-loop-again c = (omega arith, below-more _ _ (c .before .before .before .before .loop .inv .1) (λ e. c .if1 .left (ap (λ (x : Hop). x .vl) (c .before .before .hop-at .ensures) ∙ e)))
+loop-again c =
+    let a = c .before .before .before .before .before .before .args in
+    let l = c .before .before .before .before .loop in
+    let hop = c .before .before .hop-row .ensures ∙ hop-row (a .net .now) (l .h) (omega arith) in
+    (omega arith, below-more _ _ (l .inv .1) (λ e. c .if1 .left (ap (λ (x : Hop). x .vl) hop ∙ e)))
 
 returns-2 : tie.Need-returns-2 Inv-loop μ-loop
 returns-2 c = let a = c .before .before .before .args in has-hop-no (networkOn (a .net .now)) (a .v) (λ k l. c .before .loop .inv .1 k (omega arith))

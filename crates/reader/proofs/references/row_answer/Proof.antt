@@ -3,12 +3,20 @@
 use mathlib.Core.Path.{_≡_, sym, ap, _∙_}
 use native.Mathlib.Omega.{arith}
 use Prim.Native.Nat.{ℕ}
+use Rattle.network.proofs.TestsAre.{rows-are}
 use Rattle.sheet.specs.Sheet.{networkOn}
 use Rattle.reader.specs.Referring.{rowAnswer}
 use Rattle.reader.proofs.AnsweringLaws.{last-named}
 use borrow.Author.Needs.{needs}
 use Rattle.reader.proofs.references.row_answer.Statement.{statement}
 use Rattle.reader.proofs.references.row_answer.Tie as tie
+
+hop-answer-requires : tie.Need-hop-answer-requires
+hop-answer-requires c κs =
+    let a = c .before .args in
+    let net = networkOn (a .net .now) in
+    let last = last-named net (a .section) (a .i) (c .before .pre) (omega arith) (omega arith) in
+    omega (arith, rows-are net 5, rw last at (c .before .pre))
 
 returns : tie.Need-returns
 returns c =
@@ -34,7 +42,7 @@ row-answer-spec =
     (tie.spec
     (λ c κs. search needs)
     (λ c κs. search needs)
-    (λ c κs. search needs)
+    hop-answer-requires
     returns
     returns-2
     returns-3)
