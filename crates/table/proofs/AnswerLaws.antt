@@ -1,18 +1,18 @@
 -- What acceptance says in plain facts, of a table and of lists, and the other way round: each test of the answers is passed, and a refusal has another number.
 -- Assumes nothing.
-use mathlib.Core.Path.{_≡_, refl, ap}
-use mathlib.Core.Bool.{Bool, true, false, _&&_, true≢false, and-eq-true-iff}
-use mathlib.Core.List.{List, [], _∷_}
+use mathlib.Core.Path.{_≡_, ap}
+use mathlib.Core.Bool.{Bool, true, _&&_, and-eq-true-iff}
+use mathlib.Core.List.{List, [], _∷_, _++_}
 use mathlib.Core.Option.{Option, none, some}
 use Prim.Native.Nat.{ℕ, zero, suc, _*_, _/_, _%_, _≤_, _<_}
 use native.Mathlib.Nat.{div-add-mod'}
 use native.Mathlib.Omega.{arith}
 use lib.Dec.{ltb, eqb}
 use lib.ListN.{length}
-use borrow.Author.Tests.{le-leb, le-ltb, eqb-true, eq-eqb}
-use Rattle.base.specs.Pick.{pick}
+use borrow.Author.Tests.{ltb-false, le-leb, le-ltb, eqb-true, eq-eqb}
 use Rattle.base.specs.Least.{leastFrom}
 use Rattle.base.proofs.LeastLaws.{least-none, none-was}
+use Rattle.base.proofs.TestLaws.{no-row, no-row-was}
 use Rattle.layout.specs.declared.Way.the-variants.{Reading, Writing}
 use Rattle.base.specs.Tests.{isSome, numberOr0}
 use Rattle.layout.specs.Layout.{headerNames}
@@ -21,35 +21,13 @@ use Rattle.layout.proofs.LayoutLaws.{listed-is}
 use Rattle.table.specs.declared.Answer.{Answer}
 use Rattle.table.specs.Answers.{answer, accepted, firstGiven}
 use Rattle.table.specs.Sections.{headerRow, kindIn, rows, from, row}
-use Rattle.table.specs.Lists.{Lists, listFor, recordsIn, kindFor}
-use Rattle.table.specs.Unpack.{answer1, answer2, answer3, badRow, badSection, answerAtRow, answer4, Lengths, needs, answer11, unpackAnswer}
+use Rattle.table.specs.Lists.{Lists, listFor, recordsIn, kindFor, unpacked}
+use Rattle.table.specs.Unpack.{answer1, answer2, answer3, badRow, badSection, answerAtRow, answer4, shortList, answer11, unpackAnswer}
 use Rattle.table.specs.Write.{headerFor, meantRow, whole, write2, badRecord, badList, answerAtRecord, write4, tableSize, write11, writeAnswer}
-
--- ---- the first refusal: acceptance passes over each, and tells what each went by
-pub pick-passed : (t : Bool) (o : Option Answer) (a : Answer) (os : List (Option Answer)) → 0 < a .number → firstGiven (pick t o (some a) ∷ os) ≡ accepted
-    → (t ≡ true) × (firstGiven (o ∷ os) ≡ accepted)
-unfolding firstGiven
-pick-passed true o a os h e = (refl, e)
-pick-passed false o a os h e = absurd (omega (arith, ap (λ (x : Answer). x .number) e))
-
-pub skip-passed : (t : Bool) (a : Answer) (os : List (Option Answer)) → 0 < a .number → firstGiven (pick t (some a) none ∷ os) ≡ accepted → firstGiven os ≡ accepted
-unfolding firstGiven
-skip-passed true a os h e = absurd (omega (arith, ap (λ (x : Answer). x .number) e))
-skip-passed false a os h e = e
-
-pub fault-passed : (o : Option ℕ) (f : ℕ → Answer) (os : List (Option Answer)) → ((n : ℕ) → 0 < f n .number)
-    → firstGiven ((elim o [ none ↦ none | some n ↦ some (f n) ]) ∷ os) ≡ accepted
-    → (o ≡ none) × (firstGiven os ≡ accepted)
-unfolding firstGiven
-fault-passed none f os h e = (refl, e)
-fault-passed (some n) f os h e = absurd (omega (arith, h n, ap (λ (x : Answer). x .number) e))
+use Rattle.table.specs.RoundTrip.{RoomFor}
+use Rattle.table.proofs.FirstLaws.{Refuse, refuse-both, NoneGiven, none-given, accepted-front, pick-refuses, picked-none, row-refuses, no-row-given}
 
 -- ---- faults by section and row
-not-some : (o : Option ℕ) → isSome o ≡ false → o ≡ none
-unfolding isSome
-not-some none e = refl
-not-some (some n) e = absurd (true≢false e)
-
 module _ (fault : ℕ → ℕ → Option ℕ) (count : ℕ → ℕ) where
   abbrev badIn : ℕ → Option ℕ
   badIn s = leastFrom (λ i. isSome (fault s i)) 0 (count s)
@@ -60,17 +38,15 @@ module _ (fault : ℕ → ℕ → Option ℕ) (count : ℕ → ℕ) where
 
   clean-was : leastFrom (λ s. isSome (badIn s)) 1 5 ≡ none → Clean
   clean-was e s i h l =
-      let section = not-some (badIn (suc s)) (none-was (λ s. isSome (badIn s)) 1 5 (suc s) e (omega arith) (omega arith)) in
-      not-some (fault (suc s) i) (none-was (λ i. isSome (fault (suc s) i)) 0 (count (suc s)) i section (omega arith) (omega arith))
+      let section = no-row-was badIn 1 5 e (suc s) (omega arith) (omega arith) in
+      no-row-was (fault (suc s)) 0 (count (suc s)) section i (omega arith) (omega arith)
 
   clean-is : Clean → leastFrom (λ s. isSome (badIn s)) 1 5 ≡ none
-  unfolding isSome
-  clean-is clean = least-none (λ s. isSome (badIn s)) 1 5 none-in
+  clean-is clean = no-row badIn 1 5 none-in
     where
-      none-in : (s : ℕ) → 1 ≤ s → s < 6 → isSome (badIn s) ≡ false
+      none-in : (s : ℕ) → 1 ≤ s → s < 6 → badIn s ≡ none
       none-in zero low high = absurd (omega arith)
-      none-in (suc s) low high =
-          ap isSome (least-none (λ i. isSome (fault (suc s) i)) 0 (count (suc s)) (λ i _ l. ap isSome (clean s i high (omega arith))))
+      none-in (suc s) low high = no-row (fault (suc s)) 0 (count (suc s)) (λ i _ l. clean s i high (omega arith))
 
 -- ---- a table
 -- what acceptance says of it: a good header, the length that its counts require, and good rows
@@ -79,45 +55,63 @@ pub record Sound (bytes : List ℕ) : Type 0 where
   pub exact : length bytes ≡ from bytes 6
   pub good : (s i : ℕ) → suc s < 6 → i < rows bytes (suc s) → rowFault Reading (kindIn bytes (suc s)) (row bytes (suc s) i) ≡ none
 
--- and of the lent lists: they hold the table's numbers
-pub record Holds (bytes : List ℕ) (n : Lengths) : Type 0 where
-  pub header : length headerNames ≤ n .header
-  pub systems : needs bytes 1 ≤ n .systems
-  pub vls : needs bytes 2 ≤ n .vls
-  pub streams : needs bytes 3 ≤ n .streams
-  pub ports : needs bytes 4 ≤ n .ports
-  pub hops : needs bytes 5 ≤ n .hops
+-- the answers 1 to 4, in their order: each refuses, where it is given
+abbrev pub tableRefusals : List ℕ → List (Option Answer)
+tableRefusals bytes = answer1 bytes ∷ answer2 bytes ∷ answer3 bytes ∷ answer4 bytes ∷ []
 
-pub unpack-was : (bytes : List ℕ) (n : Lengths) → unpackAnswer bytes n ≡ accepted → Sound bytes
-unfolding unpackAnswer answer1 answer2 answer3 answer4 answerAtRow badSection badRow firstGiven
-unpack-was bytes n e =
-    let after2 = answer3 bytes ∷ answer4 bytes ∷ answer11 bytes n ∷ [] in
-    let e2 = skip-passed (ltb (length bytes) 14) (answer 1 0 0 0) (answer2 bytes ∷ after2) (omega arith) e in
-    let e3 = fault-passed (rowFault Reading 0 (headerRow bytes)) (answer 2 0 0) after2 (λ test. omega arith) e2 in
-    let e4 = pick-passed (eqb (length bytes) (from bytes 6)) none (answer 3 0 0 0) (answer4 bytes ∷ answer11 bytes n ∷ []) (omega arith) (e3 .1) in
-    let e5 = fault-passed (badSection bytes) (λ s. answerAtRow bytes s (numberOr0 (badRow bytes s))) (answer11 bytes n ∷ []) (λ s. omega arith) (e4 .1) in
-    record {
-      header = e3 .0;
-      exact = eqb-true (length bytes) (from bytes 6) (e4 .0);
-      good = clean-was (λ s i. rowFault Reading (kindIn bytes s) (row bytes s i)) (rows bytes) (e5 .0);
-    }
+pub table-refuse : (bytes : List ℕ) → Refuse (tableRefusals bytes)
+unfolding answer1 answer2 answer3 answer4 answerAtRow
+table-refuse bytes = (
+  pick-refuses (ltb (length bytes) 14) (answer 1 0 0 0) none (omega arith) tt .0,
+  (
+    row-refuses (rowFault Reading 0 (headerRow bytes)) (answer 2 0 0) (λ test. omega arith),
+    (
+      pick-refuses (eqb (length bytes) (from bytes 6)) (answer 3 0 0 0) none (omega arith) tt .1,
+      (row-refuses (badSection bytes) (λ s. answerAtRow bytes s (numberOr0 (badRow bytes s))) (λ s. omega arith), tt),
+    ),
+  ),
+)
 
-pub unpack-is : (bytes : List ℕ) (n : Lengths) → Sound bytes → 14 ≤ length bytes → Holds bytes n → unpackAnswer bytes n ≡ accepted
-unfolding unpackAnswer answer1 answer2 answer3 answer4 answer11 firstGiven badSection badRow
-unpack-is bytes n sound long holds =
+pub sound-where : (bytes : List ℕ) → NoneGiven (tableRefusals bytes) → Sound bytes
+unfolding answer2 answer3 answer4 badSection badRow
+sound-where bytes p = record {
+  header = no-row-given (rowFault Reading 0 (headerRow bytes)) (answer 2 0 0) (p .1 .0);
+  exact = eqb-true (length bytes) (from bytes 6) (picked-none (eqb (length bytes) (from bytes 6)) (answer 3 0 0 0) none (p .1 .1 .0) .0);
+  good =
+      clean-was (λ s i. rowFault Reading (kindIn bytes s) (row bytes s i)) (rows bytes)
+      (no-row-given (badSection bytes) (λ s. answerAtRow bytes s (numberOr0 (badRow bytes s))) (p .1 .1 .1 .0));
+}
+
+pub unpack-was : (bytes : List ℕ) (before : Lists) → unpackAnswer bytes before ≡ accepted → Sound bytes
+unfolding unpackAnswer
+unpack-was bytes before e =
+    let front = accepted-front (tableRefusals bytes) (answer11 bytes before ∷ []) e in
+    sound-where bytes (none-given (tableRefusals bytes) (table-refuse bytes) (ap (λ (a : Answer). a .number) front))
+
+-- and the lent lists have room
+pub room-was : (bytes : List ℕ) (before : Lists) → unpackAnswer bytes before .number ≡ 0
+    → (s : ℕ) → s < 6 → length (listFor (unpacked bytes) s) ≤ length (listFor before s)
+unfolding unpackAnswer answer11 shortList
+room-was bytes before e s h =
+    let short = shortList (unpacked bytes) before in
+    let refuse-11 = row-refuses short (λ s. answer 11 0 0 0) (λ s. omega arith) in
+    let refuse = refuse-both (tableRefusals bytes) (answer11 bytes before ∷ []) (table-refuse bytes) (refuse-11, tt) in
+    let p = none-given (tableRefusals bytes ++ (answer11 bytes before ∷ [])) refuse e in
+    let none-short = no-row-given short (λ s. answer 11 0 0 0) (p .1 .1 .1 .1 .0) in
+    let test : ℕ → Bool = λ s. ltb (length (listFor before s)) (length (listFor (unpacked bytes) s)) in
+    ltb-false _ _ (none-was test 0 6 s none-short (omega arith) (omega arith))
+
+pub unpack-is : (bytes : List ℕ) (before : Lists) → Sound bytes → 14 ≤ length bytes → RoomFor (unpacked bytes) before
+    → unpackAnswer bytes before ≡ accepted
+unfolding unpackAnswer answer1 answer2 answer3 answer4 answer11 shortList firstGiven badSection badRow
+unpack-is bytes before sound long room =
     let none1 : answer1 bytes ≡ none = rw (le-ltb (length bytes) 14 long) in
     let none2 : answer2 bytes ≡ none = rw (sound .header, answer2) in
     let none3 : answer3 bytes ≡ none = rw (eq-eqb (length bytes) (from bytes 6) (sound .exact)) in
     let none4 : answer4 bytes ≡ none = rw (clean-is (λ s i. rowFault Reading (kindIn bytes s) (row bytes s i)) (rows bytes) (sound .good), answer4) in
-    let none11 : answer11 bytes n ≡ none =
-    rw (
-      le-leb (length headerNames) (n .header) (holds .header),
-      le-leb (needs bytes 1) (n .systems) (holds .systems),
-      le-leb (needs bytes 2) (n .vls) (holds .vls),
-      le-leb (needs bytes 3) (n .streams) (holds .streams),
-      le-leb (needs bytes 4) (n .ports) (holds .ports),
-      le-leb (needs bytes 5) (n .hops) (holds .hops),
-    ) in
+    let test : ℕ → Bool = λ s. ltb (length (listFor before s)) (length (listFor (unpacked bytes) s)) in
+    let short = least-none test 0 6 (λ s _ _. le-ltb _ _ (room s)) in
+    let none11 : answer11 bytes before ≡ none = rw (short, answer11) in
     rw (none1, none2, none3, none4, none11)
 
 -- ---- lists
@@ -172,17 +166,22 @@ whole-is ls w =
 pub write-was : (ls : Lists) (room : ℕ) → writeAnswer ls room ≡ accepted → Writable ls
 unfolding writeAnswer write2 write4 answerAtRecord badList badRecord
 write-was ls room e =
-    let after2 = write4 ls ∷ write11 ls room ∷ [] in
     let header : Option Answer = elim (rowFault Writing 0 (headerFor ls)) [ none ↦ none | some test ↦ some (answer 2 0 0 test) ] in
-    let e2 = pick-passed (whole ls) header (answer 2 0 0 0) after2 (omega arith) e in
-    let e3 = fault-passed (rowFault Writing 0 (headerFor ls)) (answer 2 0 0) after2 (λ test. omega arith) (e2 .1) in
-    let e4 = fault-passed (badList ls) (λ s. answerAtRecord ls s (numberOr0 (badRecord ls s))) (write11 ls room ∷ []) (λ s. omega arith) (e3 .1) in
+    let at : ℕ → Answer = λ s. answerAtRecord ls s (numberOr0 (badRecord ls s)) in
+    let refuse2 = row-refuses (rowFault Writing 0 (headerFor ls)) (answer 2 0 0) (λ test. omega arith) in
+    let refuse : Refuse (write2 ls ∷ write4 ls ∷ []) =
+    (pick-refuses (whole ls) (answer 2 0 0 0) header (omega arith) refuse2 .1, (row-refuses (badList ls) at (λ s. omega arith), tt)) in
+    let front = accepted-front (write2 ls ∷ write4 ls ∷ []) (write11 ls room ∷ []) e in
+    let none-is = none-given (write2 ls ∷ write4 ls ∷ []) refuse (ap (λ (a : Answer). a .number) front) in
+    let e2 = picked-none (whole ls) (answer 2 0 0 0) header (none-is .0) in
     let parts = whole-was ls (e2 .0) in
     record {
       header-list = parts .0;
       full = parts .1;
-      header = e3 .0;
-      good = clean-was (λ s i. rowFault Writing (kindFor ls s) (meantRow ls s i)) (recordsIn ls) (e4 .0);
+      header = no-row-given (rowFault Writing 0 (headerFor ls)) (answer 2 0 0) (e2 .1);
+      good =
+          clean-was (λ s i. rowFault Writing (kindFor ls s) (meantRow ls s i)) (recordsIn ls)
+          (no-row-given (badList ls) at (none-is .1 .0));
     }
 
 pub write-is : (ls : Lists) (room : ℕ) → Writable ls → tableSize ls ≤ room → writeAnswer ls room ≡ accepted

@@ -1,5 +1,6 @@
 pub mod LentLaws
 pub mod FirstLaws
+pub mod ListsLaws
 pub mod AnswerLaws
 pub mod SectionLaws
 pub mod WriteLaws

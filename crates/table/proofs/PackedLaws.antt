@@ -16,15 +16,15 @@ use Rattle.layout.specs.Layout.{header, layoutIn, layout, kindOf, headerNames, 
 use Rattle.layout.specs.Rows.{named, converted, listed, rowFault}
 use Rattle.layout.proofs.LayoutLaws.{whole-bytes, size-is, header-kind}
 use Rattle.layout.proofs.RoomLaws.{room-yes, row-there}
-use Rattle.table.specs.Sections.{headerRow, version, kindIn, rows, from, row, recordOf, records}
-use Rattle.table.specs.Lists.{Lists, listFor, recordsIn, versionFor, kindFor, headerOf, unpacked}
-use Rattle.table.specs.Unpack.{Lengths, needs}
+use Rattle.table.specs.Sections.{headerRow, version, kindIn, rows, from, row, recordOf}
+use Rattle.table.specs.Lists.{Lists, listFor, recordsIn, versionFor, kindFor, headerOf, listIn, unpacked}
 use Rattle.table.specs.Write.{headerFor, packed}
-use Rattle.table.specs.RoundTrip.{RoomFor}
-use Rattle.table.proofs.AnswerLaws.{Writable, Sound, Holds}
+use Rattle.table.proofs.AnswerLaws.{Writable, Sound}
+use Rattle.table.proofs.ListsLaws.{lists-same}
 use Rattle.table.proofs.SectionLaws.{start, start-same, start-le, from-is, row-read, records-are}
 use Rattle.table.proofs.WriteLaws.{count, meant, storedRow, size-is-start, length-packed, Fits, row-packed, record-given}
 use Rattle.table.proofs.HeaderLaws.{header-at, header-stays, header-count, header-numbers, counts-short}
+use Rattle.table.proofs.UnpackLaws.{list-is}
 
 -- a row as it is stored, read back: it fits its fields, has no fault, and means what it meant
 pub record Back (ls : Lists) (s i : ℕ) : Type 0 where
@@ -100,9 +100,13 @@ module _ (ls : Lists) (w : Writable ls) (back : (s i : ℕ) → s < 6 → i < co
   }
 
   -- ---- the lists
-  list-back : (s : ℕ) → suc s < 6 → records (packed ls) (suc s) (rows (packed ls) (suc s)) ≡ listFor ls (suc s)
-  unfolding recordOf count
-  list-back s h =
+  list-back : (s : ℕ) → s < 6 → listIn (packed ls) s ≡ listFor ls s
+  unfolding listFor headerOf recordOf count meant
+  list-back zero h =
+      ap (λ (r : List ℕ). map (named 0 (converted Reading (layout 0) r)) headerNames) header-row
+      ∙ ap (λ (r : List ℕ). map (named 0 r) headerNames) (rw (header-kind v) at (back 0 0 (omega arith) one-header .same))
+      ∙ header-numbers ls (w .header-list)
+  list-back (suc s) h =
       let n = rows-packed (suc s) h in
       rw n
       (records-are (packed ls) (suc s) (listFor ls (suc s)) (recordsIn ls (suc s))
@@ -113,35 +117,5 @@ module _ (ls : Lists) (w : Writable ls) (back : (s i : ℕ) → s < 6 → i < co
       ∙ record-given ls w s i h l)
       ∙ take-all (recordsIn ls (suc s) * listed (suc s)) (listFor ls (suc s)) (omega (arith, w .full s h)))
 
-  header-back : headerOf (packed ls) ≡ ls .header
-  unfolding headerOf meant
-  header-back =
-      ap (λ (r : List ℕ). map (named 0 (converted Reading (layout 0) r)) headerNames) header-row
-      ∙ ap (λ (r : List ℕ). map (named 0 r) headerNames) (rw (header-kind v) at (back 0 0 (omega arith) one-header .same))
-      ∙ header-numbers ls (w .header-list)
-
   pub same-lists : unpacked (packed ls) ≡ ls
-  unfolding unpacked listFor
-  same-lists = λ i. record {
-    header = header-back i;
-    systems = list-back 0 (omega arith) i;
-    vls = list-back 1 (omega arith) i;
-    streams = list-back 2 (omega arith) i;
-    ports = list-back 3 (omega arith) i;
-    hops = list-back 4 (omega arith) i;
-  }
-
-  needs-are : (s : ℕ) → suc s < 6 → needs (packed ls) (suc s) ≤ length (listFor ls (suc s))
-  unfolding needs count
-  needs-are s h = omega (arith, w .full s h, ap (λ (n : ℕ). n * listed (suc s)) (rows-packed (suc s) h))
-
-  pub lists-hold : (n : Lengths) → RoomFor ls n → Holds (packed ls) n
-  unfolding listFor
-  lists-hold n room = record {
-    header = omega (arith, w .header-list, room .header);
-    systems = omega (arith, needs-are 0 (omega arith), room .systems);
-    vls = omega (arith, needs-are 1 (omega arith), room .vls);
-    streams = omega (arith, needs-are 2 (omega arith), room .streams);
-    ports = omega (arith, needs-are 3 (omega arith), room .ports);
-    hops = omega (arith, needs-are 4 (omega arith), room .hops);
-  }
+  same-lists = lists-same (unpacked (packed ls)) ls (λ s h. list-is (packed ls) s h ∙ list-back s h)

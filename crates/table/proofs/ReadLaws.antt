@@ -34,12 +34,12 @@ use Rattle.table.specs.Sections.{headerRow, kindIn, rows, row, recordOf}
 use Rattle.table.specs.Lists.{recordsIn, recordAt, headerOf, unpacked}
 use Rattle.table.specs.Decoded.{ticksAt, systemIn, vlIn, streamIn, portIn}
 use Rattle.table.specs.Read.{networkIn, badRefSection, answerAtReference, answer5, readAnswer}
-use Rattle.table.proofs.AnswerLaws.{Sound, unpack-was}
+use Rattle.table.proofs.AnswerLaws.{Sound}
 use Rattle.table.proofs.SectionLaws.{record-at}
 use Rattle.table.proofs.WriteLaws.{count}
 use Rattle.table.proofs.UnpackLaws.{list-is, count-is}
 use Rattle.table.proofs.DecodedLaws.{rules-are, send-least, send-greatest, receive-least, receive-greatest, systems-are, vls-are, streams-are, ports-are, hops-are, system-there, vl-there, stream-there, port-there}
-use Rattle.table.proofs.ReadingLaws.{few, readersLengths, readers-roomy, read-accepts}
+use Rattle.table.proofs.ReadingLaws.{few, read-accepts}
 use Rattle.table.proofs.HeldLaws.{system-row, vl-row, stream-row, port-row}
 
 -- ---- 5 is not given
@@ -54,11 +54,11 @@ no-bad-section net e s a b = no-row-was (badReference net) 2 4 (go (badRefSectio
 pub read-references : (bytes : List ℕ) → readAnswer bytes ≡ accepted → References (networkIn bytes)
 read-references bytes e =
     let net = networkIn bytes in
-    let good = no-bad-section net (read-accepts bytes e .none5) in
+    let good = no-bad-section net (read-accepts bytes e .1) in
     references-hold net (good 2 (omega arith) (omega arith)) (good 3 (omega arith) (omega arith)) (good 5 (omega arith) (omega arith))
 
 pub read-sound : (bytes : List ℕ) → readAnswer bytes ≡ accepted → Sound bytes
-read-sound bytes e = unpack-was bytes readersLengths (read-accepts bytes e .unpacks readersLengths readers-roomy)
+read-sound bytes e = read-accepts bytes e .0
 
 -- ---- the numbers of the lists are what the rows mean
 module _ (bytes : List ℕ) where
@@ -70,7 +70,7 @@ module _ (bytes : List ℕ) where
       → getD (recordAt (unpacked bytes) (suc s) i) k 0 ≡ getD (converted Reading (layout (kindIn bytes (suc s))) (row bytes (suc s) i)) k 0
   unfolding recordOf
   record-read s i k h l m =
-      ap (λ (ns : List ℕ). getD (take (listed (suc s)) (drop (i * listed (suc s)) ns)) k 0) (list-is bytes s h)
+      ap (λ (ns : List ℕ). getD (take (listed (suc s)) (drop (i * listed (suc s)) ns)) k 0) (list-is bytes (suc s) h)
       ∙ ap (λ (r : List ℕ). getD r k 0) (record-at bytes (suc s) (rows bytes (suc s)) i l)
       ∙ getD-take (listed (suc s)) (converted Reading (layout (kindIn bytes (suc s))) (row bytes (suc s) i)) k 0 m
 

@@ -14,10 +14,10 @@ use Rattle.table.specs.RoundTrip.{Unpack-after-write, Write-after-unpack
 use Rattle.table.proofs.AnswerLaws.{unpack-was, unpack-is, write-was, write-is}
 use Rattle.table.proofs.WriteLaws.{count, meant, good-rows, length-meant}
 use Rattle.table.proofs.UnpackLaws.{Again, sound-rows, size-unpacked, same-bytes, writable}
-use Rattle.table.proofs.PackedLaws.{Back, header-fits, packed-sound, same-lists, lists-hold}
+use Rattle.table.proofs.PackedLaws.{Back, header-fits, packed-sound, same-lists}
 
 pub unpack-after-write : Unpack-after-write
-unpack-after-write ls room e n long =
+unpack-after-write ls room e before long =
     let w = write-was ls room e in
     let back : (s i : ℕ) → s < 6 → i < count ls s → Back ls s i =
     λ s i h l.
@@ -27,12 +27,13 @@ unpack-after-write ls room e n long =
       fit = written-fits (kindFor ls s) (meant ls s i) ok;
       good = written-readable (kindFor ls s) (meant ls s i) ok;
     } in
-    (unpack-is (packed ls) n (packed-sound ls w back) (header-fits ls w back) (lists-hold ls w back n long), same-lists ls w back)
+    let same = same-lists ls w back in
+    (unpack-is (packed ls) before (packed-sound ls w back) (header-fits ls w back) (rw same long), same)
 
 pub write-after-unpack : Write-after-unpack
 unfolding row
-write-after-unpack bytes n b e room long =
-    let sound = unpack-was bytes n e in
+write-after-unpack bytes before b e room long =
+    let sound = unpack-was bytes before e in
     let again : (s i : ℕ) → s < 6 → i < rows bytes s → Again bytes s i =
     λ s i h l.
     let ok = sound-rows bytes sound s i h l in
@@ -42,5 +43,7 @@ write-after-unpack bytes n b e room long =
     (write-is (unpacked bytes) room (writable bytes sound again) (omega (arith, size-unpacked bytes sound)), same-bytes bytes sound again b)
 
 pub determined : Determined
-determined s t n m bs bt es et e =
-    sym (write-after-unpack s n bs es (length s) (omega arith) .1) ∙ ap packed e ∙ write-after-unpack t m bt et (length t) (omega arith) .1
+determined s t before other bs bt es et e =
+    sym (write-after-unpack s before bs es (length s) (omega arith) .1)
+    ∙ ap packed e
+    ∙ write-after-unpack t other bt et (length t) (omega arith) .1

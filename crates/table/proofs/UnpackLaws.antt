@@ -14,10 +14,11 @@ use Rattle.layout.specs.declared.Way.the-variants.{Reading, Writing}
 use Rattle.layout.specs.Layout.{layout, kindOf, headerNames, widths}
 use Rattle.layout.specs.Rows.{converted, listed, rowFault}
 use Rattle.layout.proofs.LayoutLaws.{listed-some, header-kind}
-use Rattle.table.specs.Sections.{headerRow, version, kindIn, rows, row, recordOf, records}
-use Rattle.table.specs.Lists.{listFor, recordsIn, versionFor, kindFor, headerOf, unpacked}
+use Rattle.table.specs.Sections.{headerRow, version, kindIn, rows, row, recordOf}
+use Rattle.table.specs.Lists.{listFor, recordsIn, versionFor, kindFor, headerOf, listIn, unpacked}
 use Rattle.table.specs.Write.{meantRow, tableSize, packed}
 use Rattle.table.proofs.AnswerLaws.{Sound, Writable}
+use Rattle.table.proofs.ListsLaws.{list-by}
 use Rattle.table.proofs.SectionLaws.{padded-in, start, start-same, from-is, row-read, length-records, record-at}
 use Rattle.table.proofs.WriteLaws.{count, meant, size-is-start, packed-is}
 use Rattle.table.proofs.HeaderLaws.{header-rows, version-meant, first-row, header-short, header-meant}
@@ -29,17 +30,12 @@ pub record Again (bytes : List ℕ) (s i : ℕ) : Type 0 where
 
 module _ (bytes : List ℕ) where
   -- ---- the counts
-  pub list-is : (s : ℕ) → suc s < 6 → listFor (unpacked bytes) (suc s) ≡ records bytes (suc s) (rows bytes (suc s))
-  unfolding listFor unpacked
-  list-is zero h = refl
-  list-is (suc zero) h = refl
-  list-is (suc (suc zero)) h = refl
-  list-is (suc (suc (suc zero))) h = refl
-  list-is (suc (suc (suc (suc zero)))) h = refl
-  list-is (suc (suc (suc (suc (suc s))))) h = absurd (omega arith)
+  pub list-is : (s : ℕ) → s < 6 → listFor (unpacked bytes) s ≡ listIn bytes s
+  unfolding unpacked
+  list-is = list-by (listIn bytes)
 
   pub length-list : (s : ℕ) → suc s < 6 → length (listFor (unpacked bytes) (suc s)) ≡ rows bytes (suc s) * listed (suc s)
-  length-list s h = ap length (list-is s h) ∙ length-records bytes (suc s) (rows bytes (suc s))
+  length-list s h = ap length (list-is (suc s) h) ∙ length-records bytes (suc s) (rows bytes (suc s))
 
   pub count-is : (s : ℕ) → s < 6 → count (unpacked bytes) s ≡ rows bytes s
   unfolding count rows recordsIn
@@ -76,7 +72,7 @@ module _ (bytes : List ℕ) where
         let k = kindIn bytes (suc s) in
         ap (λ (w : ℕ). take (listed (suc s)) (drop (i * listed (suc s)) (listFor (unpacked bytes) (suc s))) ++ replicate (length (layout (kindOf w (suc s))) - listed (suc s)) 0)
         same-version
-        ∙ ap (λ (l : List ℕ). take (listed (suc s)) (drop (i * listed (suc s)) l) ++ replicate (length (layout k) - listed (suc s)) 0) (list-is s h)
+        ∙ ap (λ (l : List ℕ). take (listed (suc s)) (drop (i * listed (suc s)) l) ++ replicate (length (layout k) - listed (suc s)) 0) (list-is (suc s) h)
         ∙ ap (λ (l : List ℕ). l ++ replicate (length (layout k) - listed (suc s)) 0) (record-at bytes (suc s) (rows bytes (suc s)) i l)
         ∙ padded-in (version bytes) (suc s) (row bytes (suc s) i)
 

@@ -1,6 +1,6 @@
 -- The six lists of numbers that a table is unpacked to and written from: the header's, and the records of each section.
 -- The version stands in the header's list, so that it travels with them. Assumes nothing.
-use Prim.Native.Nat.{ℕ, _*_, _/_}
+use Prim.Native.Nat.{ℕ, zero, suc, _*_, _/_}
 use mathlib.Core.List.{List, [], _∷_, map}
 use lib.ListN.{length, getD, take, drop}
 use Rattle.layout.specs.declared.Name.{Name}
@@ -19,9 +19,16 @@ pub record Lists : Type 0 where
   pub ports : List ℕ
   pub hops : List ℕ
 
--- the list of a section's records
+abbrev pub lists : (header systems vls streams ports hops : List ℕ) → Lists
+lists header systems vls streams ports hops =
+    record { header = header; systems = systems; vls = vls; streams = streams; ports = ports; hops = hops }
+
+-- the lists by their sections: the header's is that of section 0, and there is none behind section 5
+abbrev pub listsBy : (ℕ → List ℕ) → Lists
+listsBy list = lists (list 0) (list 1) (list 2) (list 3) (list 4) (list 5)
+
 unfoldable pub listFor : Lists → ℕ → List ℕ
-listFor ls section = getD ([] ∷ ls .systems ∷ ls .vls ∷ ls .streams ∷ ls .ports ∷ ls .hops ∷ []) section []
+listFor ls section = getD (ls .header ∷ ls .systems ∷ ls .vls ∷ ls .streams ∷ ls .ports ∷ ls .hops ∷ []) section []
 
 -- "takes its counts from its lists"
 unfoldable pub recordsIn : Lists → ℕ → ℕ
@@ -47,13 +54,10 @@ kindFor ls section = kindOf (versionFor ls) section
 unfoldable pub headerOf : List ℕ → List ℕ
 headerOf bytes = map (named 0 (converted Reading (layout 0) (headerRow bytes))) headerNames
 
+abbrev pub listIn : List ℕ → ℕ → List ℕ
+listIn bytes zero = headerOf bytes
+listIn bytes (suc s) = records bytes (suc s) (rows bytes (suc s))
+
 -- the lists that an accepted table unpacks to
 unfoldable pub unpacked : List ℕ → Lists
-unpacked bytes = record {
-  header = headerOf bytes;
-  systems = records bytes 1 (rows bytes 1);
-  vls = records bytes 2 (rows bytes 2);
-  streams = records bytes 3 (rows bytes 3);
-  ports = records bytes 4 (rows bytes 4);
-  hops = records bytes 5 (rows bytes 5);
-}
+unpacked bytes = listsBy (listIn bytes)

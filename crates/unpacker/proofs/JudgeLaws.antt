@@ -1,158 +1,127 @@
--- Answer 11 behind the answers 1 to 4: it is given where none of them is and a list is too short, so what is taken fits its list.
--- Assumes nothing.
+-- Answer 11 behind the answers 1 to 4: it is given where none of them is and a list is too short. So the lists of an accepted table take
+-- all of its numbers, and what the parts of the unpacker promise makes up its own promise. Assumes nothing.
 use mathlib.Core.Path.{_≡_, refl, sym, ap, _∙_}
-use mathlib.Core.Bool.{Bool, true, false, _&&_, and-eq-true-iff}
-use mathlib.Core.List.{List, [], _∷_, _++_}
+use mathlib.Core.Bool.{Bool, true, false}
+use mathlib.Core.List.{List, [], _∷_, _++_, map}
 use mathlib.Core.Option.{Option, none, some}
-use Prim.Native.Nat.{ℕ, zero, suc, _+_, _*_, _≤_, _<_}
+use Prim.Native.Nat.{ℕ, zero, suc, _/_, _≤_, _<_, min}
+use native.Mathlib.Decide.{decLt}
+use native.Mathlib.Nat.{le-div-iff-mul-le}
 use native.Mathlib.Omega.{arith}
-use lib.Dec.{leb, eqb}
-use lib.ListN.{length, getD, replicate, getD-replicate}
-use borrow.Author.Tests.{leb-true, ne-eqb}
+use lib.Dec.{ltb, eqb}
+use lib.ListN.{length, getD, replicate, List·getD-map}
+use borrow.Author.Tests.{le-ltb, ne-eqb, eqb-true}
 use Rattle.base.specs.Pick.{pick}
 use Rattle.base.specs.Tabulate.{tabulate}
+use Rattle.base.specs.Tests.{isSome}
+use Rattle.base.proofs.LeastLaws.{least-same}
 use Rattle.base.proofs.TabulateLaws.{tabulate-at}
+use Rattle.base.proofs.Tests.{within-yes}
 use Rattle.layout.specs.Layout.{headerNames}
-use Rattle.layout.specs.Contracts.{wide}
 use Rattle.layout.specs.Rows.{listed}
+use Rattle.layout.proofs.LayoutLaws.{listed-some}
 use Rattle.table.specs.declared.Answer.{Answer}
+use Rattle.table.specs.declared.Unpacked.{Unpacked}
 use Rattle.table.specs.Answers.{answer, firstGiven}
-use Rattle.table.specs.Sections.{headerRow, rows, records, lent}
-use Rattle.table.specs.Unpack.{answer1, answer2, answer3, answer4, needs, answer11, unpackAnswer, unpacks, left, taken}
-use Rattle.table.specs.Lists.{headerOf}
-use Rattle.unpacker.specs.Unpacking.{tableAnswer, holdsIn, roomIn, judgedAnswer, lengthsIn, headerTaken}
+use Rattle.table.specs.Sections.{rows, lent}
+use Rattle.table.specs.Lists.{Lists, listsBy, listFor, unpacked}
+use Rattle.table.specs.Unpack.{shortList, answer11, unpackAnswer, unpacks, left, Unpacks}
 use Rattle.table.proofs.FirstLaws.{Refuse}
-use Rattle.table.proofs.ReadingLaws.{tableRefusals, table-refuse}
+use Rattle.table.proofs.AnswerLaws.{tableRefusals, table-refuse, room-was}
 use Rattle.table.proofs.LentLaws.{lent-none}
+use Rattle.table.proofs.ListsLaws.{list-by, inOrder, no-list}
 use Rattle.table.proofs.SectionLaws.{rows-few}
-use Rattle.unpacker.proofs.ListLaws.{header-taken, no-header}
+use Rattle.table.proofs.UnpackLaws.{list-is, length-list, length-header}
+use Rattle.unpacker.specs.Unpacking.{tableAnswer, numbersOf, shortFor, judgedAnswer, Judged, fitting, takenOf}
 
 -- ---- the answer
-then-11 : (os : List (Option Answer)) (t : Bool) → Refuse os
-    → firstGiven (os ++ (pick t none (some (answer 11 0 0 0)) ∷ [])) ≡ judgedAnswer (firstGiven os) t
-unfolding firstGiven judgedAnswer
-then-11 [] true h = refl
-then-11 [] false h = refl
-then-11 (none ∷ os) t h = then-11 os t (h .1)
-then-11 (some a ∷ os) t h = rw (ne-eqb (a .number) 0 (omega arith))
+then-11 : (os : List (Option Answer)) (o : Option ℕ) → Refuse os
+    → firstGiven (os ++ ((elim o [ none ↦ none | some s ↦ some (answer 11 0 0 0) ]) ∷ [])) ≡ judgedAnswer (firstGiven os) (isSome o)
+unfolding firstGiven judgedAnswer isSome
+then-11 [] none h = refl
+then-11 [] (some s) h = refl
+then-11 (none ∷ os) o h = then-11 os o (h .1)
+then-11 (some a ∷ os) o h = rw (ne-eqb (a .number) 0 (omega (arith, h .0)))
 
-passed : (a : Answer) (t : Bool) → eqb (judgedAnswer a t .number) 0 ≡ true → t ≡ true
-unfolding judgedAnswer
-passed a true e = refl
-passed a false e = go (eqb (a .number) 0) refl e
-  where
-    go : (t : Bool) → eqb (a .number) 0 ≡ t → eqb (pick t (answer 11 0 0 0) a .number) 0 ≡ true → false ≡ true
-    go true f g = g
-    go false f g = sym f ∙ g
+-- ---- the numbers of a section's list
+module _ (bytes : List ℕ) (s : ℕ) (h : s < 6) where
+  pub numbers-are : (counts : List ℕ) (n : ℕ) → counts ≡ tabulate (rows bytes) 6 → n ≡ numbersOf s (getD counts s 0)
+      → n ≡ length (listFor (unpacked bytes) s)
+  unfolding numbersOf
+  numbers-are counts n e f = f ∙ ap (λ (l : List ℕ). numbersOf s (getD l s 0)) e ∙ go s h
+    where
+      go : (s : ℕ) → s < 6 → numbersOf s (getD (tabulate (rows bytes) 6) s 0) ≡ length (listFor (unpacked bytes) s)
+      go zero h = sym (ap length (list-is bytes 0 h) ∙ length-header bytes)
+      go (suc s) h = rw (ne-eqb (suc s) 0 (omega arith), tabulate-at (rows bytes) 6 (suc s) 0 h) (sym (length-list bytes s h))
 
-right-hand : (a b c d e f : Bool) → ((((a && b) && c) && d) && e) && f ≡ a && (b && (c && (d && (e && f))))
-right-hand true true true true true f = refl
-right-hand true true true true false f = refl
-right-hand true true true false e f = refl
-right-hand true true false d e f = refl
-right-hand true false c d e f = refl
-right-hand false b c d e f = refl
+  pub count-few : (counts : List ℕ) → counts ≡ tabulate (rows bytes) 6 → getD counts s 0 < 4096
+  count-few counts e = rw (e, tabulate-at (rows bytes) 6 s 0 h) (rows-few bytes s h)
 
-room-was : (counts lengths : List ℕ) → roomIn counts lengths ≡ true
-    → (length headerNames ≤ getD lengths 0 0) × ((s : ℕ) → 1 ≤ s → s < 6 → getD counts s 0 * listed s ≤ getD lengths s 0)
-unfolding roomIn holdsIn
-room-was counts lengths e =
-    let holds : ℕ → Bool = λ s. leb (getD counts s 0 * listed s) (getD lengths s 0) in
-    let e0 = rw (right-hand (leb (length headerNames) (getD lengths 0 0)) (holds 1) (holds 2) (holds 3) (holds 4) (holds 5)) at e in
-    let e1 = and-eq-true-iff (leb (length headerNames) (getD lengths 0 0)) (holds 1 && (holds 2 && (holds 3 && (holds 4 && holds 5)))) .0 e0 in
-    let e2 = and-eq-true-iff (holds 1) (holds 2 && (holds 3 && (holds 4 && holds 5))) .0 (e1 .1) in
-    let e3 = and-eq-true-iff (holds 2) (holds 3 && (holds 4 && holds 5)) .0 (e2 .1) in
-    let e4 = and-eq-true-iff (holds 3) (holds 4 && holds 5) .0 (e3 .1) in
-    let e5 = and-eq-true-iff (holds 4) (holds 5) .0 (e4 .1) in
-    (leb-true (length headerNames) (getD lengths 0 0) (e1 .0), by-section (leb-true _ _ (e2 .0)) (leb-true _ _ (e3 .0)) (leb-true _ _ (e4 .0)) (leb-true _ _ (e5 .0)) (leb-true _ _ (e5 .1)))
-  where
-    Holds : ℕ → Type 0
-    Holds s = getD counts s 0 * listed s ≤ getD lengths s 0
+-- the rows that are taken, none on a refusal
+pub taken-counted : (bytes taken counts : List ℕ) (ok : Bool) → counts ≡ tabulate (rows bytes) 6 → taken ≡ pick ok counts (replicate 6 0)
+    → getD taken 1 0 ∷ getD taken 2 0 ∷ getD taken 3 0 ∷ getD taken 4 0 ∷ getD taken 5 0 ∷ []
+    ≡ pick ok (tabulate (λ s. rows bytes (suc s)) 5) (replicate 5 0)
+unfolding tabulate
+taken-counted bytes taken counts true e f = rw (f, e)
+taken-counted bytes taken counts false e f = rw f
 
-    by-section : Holds 1 → Holds 2 → Holds 3 → Holds 4 → Holds 5 → (s : ℕ) → 1 ≤ s → s < 6 → Holds s
-    by-section a b c d f zero low high = absurd (omega arith)
-    by-section a b c d f (suc zero) low high = a
-    by-section a b c d f (suc (suc zero)) low high = b
-    by-section a b c d f (suc (suc (suc zero))) low high = c
-    by-section a b c d f (suc (suc (suc (suc zero)))) low high = d
-    by-section a b c d f (suc (suc (suc (suc (suc zero))))) low high = f
-    by-section a b c d f (suc (suc (suc (suc (suc (suc s)))))) low high = absurd (omega arith)
+-- a list with room for all of them takes all
+taken-all : (bytes : List ℕ) (s n : ℕ) → s < 6 → length (listFor (unpacked bytes) s) ≤ n → takenOf bytes s n ≡ listFor (unpacked bytes) s
+unfolding takenOf fitting
+taken-all bytes zero n h l =
+    let here = list-is bytes 0 h in
+    rw (le-ltb n (length headerNames) (omega (arith, ap length here, length-header bytes))) (sym here)
+taken-all bytes (suc s) n h l =
+    let long = length-list bytes s h in
+    let room : rows bytes (suc s) ≤ n / listed (suc s) = le-div-iff-mul-le {k = listed (suc s)} (listed-some (suc s) h) .1 (omega arith) in
+    let all : min (rows bytes (suc s)) (n / listed (suc s)) ≡ rows bytes (suc s) = omega arith in
+    rw (ne-eqb (suc s) 0 (omega arith), within-yes 1 5 (suc s) (omega arith, omega arith), all) (sym (list-is bytes (suc s) h))
 
-module _ (bytes : List ℕ) where
-  module _ (lengths : List ℕ) where
-    abbrev room : Bool
-    room = roomIn (tabulate (rows bytes) 6) lengths
+-- ---- the promise
+module _ (bytes : List ℕ) (before : Lists) where
+  short-is : shortFor bytes (map length (inOrder before)) ≡ shortList (unpacked bytes) before
+  unfolding shortFor shortList listFor
+  short-is =
+      least-same _ _ 0 6
+      (λ s _. ap (λ (n : ℕ). ltb n (length (listFor (unpacked bytes) s))) (List·getD-map length (inOrder before) s []))
+
+  -- what the list of a section is filled with has all of its numbers on acceptance, as there is room, and on a refusal nothing
+  abbrev pub filled : Bool → ℕ → List ℕ
+  filled ok s = lent (length (listFor before s)) (pick ok (takenOf bytes s (length (listFor before s))) [])
+
+  filled-is : (s : ℕ) → s < 6 → (ok : Bool) → unpacks bytes before ≡ ok
+      → filled ok s ≡ left ok (length (listFor before s)) (listFor (unpacked bytes) s)
+  unfolding unpacks left
+  filled-is s h true e = ap (lent (length (listFor before s))) (taken-all bytes s _ h (room-was bytes before (eqb-true _ 0 e) s h))
+  filled-is s h false e = lent-none (length (listFor before s))
+
+  -- behind section 5 there is no list
+  nothing-behind : (ok : Bool) → [] ≡ left ok 0 []
+  unfolding left lent
+  nothing-behind true = refl
+  nothing-behind false = refl
+
+  module _ (r : Unpacked) (after : Lists) (j : Judged bytes (map length (inOrder before)) r)
+      (e : after ≡ listsBy (filled (eqb (r .answer .number) 0))) where
+    answer-is : r .answer ≡ unpackAnswer bytes before
+    unfolding unpackAnswer answer11 tableAnswer
+    answer-is =
+        j .answer
+        ∙ ap (λ (o : Option ℕ). judgedAnswer (tableAnswer bytes) (isSome o)) short-is
+        ∙ sym (then-11 (tableRefusals bytes) (shortList (unpacked bytes) before) (table-refuse bytes))
+
+    ok-is : eqb (r .answer .number) 0 ≡ unpacks bytes before
+    unfolding unpacks
+    ok-is = ap (λ (a : Answer). eqb (a .number) 0) answer-is
 
     abbrev ok : Bool
-    ok = unpacks bytes (lengthsIn lengths)
+    ok = unpacks bytes before
 
-    room-is : answer11 bytes (lengthsIn lengths) ≡ pick room none (some (answer 11 0 0 0))
-    unfolding answer11 needs roomIn holdsIn lengthsIn tabulate
-    room-is =
-        let holds : ℕ → Bool = λ s. leb (rows bytes s * listed s) (getD lengths s 0) in
-        ap (λ (t : Bool). pick t none (some (answer 11 0 0 0))) (sym (right-hand (leb (length headerNames) (getD lengths 0 0)) (holds 1) (holds 2) (holds 3) (holds 4) (holds 5)))
+    list-left : (s : ℕ) → Dec (s < 6) → listFor after s ≡ left ok (length (listFor before s)) (listFor (unpacked bytes) s)
+    list-left s (yes h) = ap (λ (ls : Lists). listFor ls s) (rw ok-is at e) ∙ list-by (filled ok) s h ∙ filled-is s h ok refl
+    list-left s (no n) =
+        let none-in : (ls : Lists) → listFor ls s ≡ [] = λ ls. no-list ls s (omega arith) in
+        rw (none-in after, none-in before, none-in (unpacked bytes)) (nothing-behind ok)
 
-    pub judged-is : judgedAnswer (tableAnswer bytes) room ≡ unpackAnswer bytes (lengthsIn lengths)
-    unfolding unpackAnswer tableAnswer
-    judged-is =
-        sym
-        (ap (λ (o : Option Answer). firstGiven (answer1 bytes ∷ answer2 bytes ∷ answer3 bytes ∷ answer4 bytes ∷ o ∷ [])) room-is
-        ∙ then-11 (tableRefusals bytes) room (table-refuse bytes))
-
-    -- ---- what is taken
-    abbrev pub counts : List ℕ
-    counts = pick ok (tabulate (rows bytes) 6) (replicate 6 0)
-
-    pub count-at : (s : ℕ) → s < 6 → getD counts s 0 ≡ taken ok bytes s
-    unfolding taken
-    count-at s h = go ok
-      where
-        go : (t : Bool) → getD (pick t (tabulate (rows bytes) 6) (replicate 6 0)) s 0 ≡ pick t (rows bytes s) 0
-        go true = tabulate-at (rows bytes) 6 s 0 h
-        go false = getD-replicate {A = ℕ} 6 s 0 0 h
-
-    pub taken-few : (s : ℕ) → s < 6 → getD counts s 0 < 4096
-    unfolding taken
-    taken-few s h = rw (count-at s h) (go ok)
-      where
-        go : (t : Bool) → pick t (rows bytes s) 0 < 4096
-        go true = rows-few bytes s h
-        go false = omega arith
-
-    -- where the unpacker accepts, every list holds its numbers
-    accepted-room : ok ≡ true → room ≡ true
-    unfolding unpacks
-    accepted-room e = passed (tableAnswer bytes) room (rw judged-is e)
-
-    pub header-fits : getD counts 0 0 * length headerNames ≤ getD lengths 0 0
-    unfolding taken rows
-    header-fits = rw (count-at 0 (omega arith)) (go ok refl)
-      where
-        go : (t : Bool) → ok ≡ t → pick t 1 0 * length headerNames ≤ getD lengths 0 0
-        go true e = omega (arith, room-was (tabulate (rows bytes) 6) lengths (accepted-room e) .0)
-        go false e = omega arith
-
-    pub taken-fit : (s : ℕ) → 1 ≤ s → s < 6 → getD counts s 0 * listed s ≤ getD lengths s 0
-    unfolding taken
-    taken-fit s low h = rw (count-at s h) (go ok refl)
-      where
-        go : (t : Bool) → ok ≡ t → pick t (rows bytes s) 0 * listed s ≤ getD lengths s 0
-        go true e = rw (← (tabulate-at (rows bytes) 6 s 0 h)) (room-was (tabulate (rows bytes) 6) lengths (accepted-room e) .1 s low h)
-        go false e = omega arith
-
-    -- ---- what is left in the lists
-    pub records-left : (n s : ℕ) → s < 6 → lent n (records bytes s (getD counts s 0)) ≡ left ok n (records bytes s (rows bytes s))
-    unfolding taken left records
-    records-left n s h = rw (count-at s h) (go ok)
-      where
-        go : (t : Bool) → lent n (records bytes s (pick t (rows bytes s) 0)) ≡ pick t (lent n (records bytes s (rows bytes s))) (replicate n 0)
-        go true = refl
-        go false = lent-none n
-
-    pub header-left : (n : ℕ) → lent n (headerTaken (wide (headerRow bytes)) (getD counts 0 0)) ≡ left ok n (headerOf bytes)
-    unfolding taken left rows
-    header-left n = rw (count-at 0 (omega arith)) (go ok)
-      where
-        go : (t : Bool) → lent n (headerTaken (wide (headerRow bytes)) (pick t 1 0)) ≡ pick t (lent n (headerOf bytes)) (replicate n 0)
-        go true = ap (lent n) (header-taken bytes 1 (omega arith))
-        go false = ap (lent n) (no-header (wide (headerRow bytes)) 0 refl) ∙ lent-none n
+    pub unpacks-of : Unpacks bytes before r after
+    unpacks-of = record { answer = answer-is; counts = rw ok-is at (j .counts); held = λ s. list-left s (decLt s 6) }

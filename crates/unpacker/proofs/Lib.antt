@@ -2,6 +2,5 @@ pub mod PlaceLaws
 pub mod ListLaws
 pub mod ExamineLaws
 pub mod JudgeLaws
-pub mod ResultLaws
 pub mod Unique
 pub mod SectionParts

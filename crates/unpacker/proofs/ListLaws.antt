@@ -18,7 +18,7 @@ use Rattle.layout.proofs.ReadLaws.{part-wide}
 use Rattle.layout.proofs.RowLaws.{wide-at, length-wide, take-wide, length-converted, converted-wide}
 use Rattle.table.specs.Sections.{headerRow, version, kindIn, row, recordOf, records, lent}
 use Rattle.table.specs.Lists.{headerOf}
-use Rattle.unpacker.specs.Unpacking.{Filling, Adding, written, headerIn, headerTaken}
+use Rattle.unpacker.specs.Unpacking.{Filling, Adding, written, headerIn}
 use Rattle.table.proofs.LentLaws.{lent-none, length-lent, lent-more}
 use Rattle.table.proofs.SectionLaws.{length-records}
 
@@ -102,28 +102,18 @@ module _ (bytes : List ℕ) (s : ℕ) where
         (ap length e ∙ length-lent (length out) (records bytes s (i + 1)) (omega (arith, room, length-records bytes s (i + 1))) ∙ same, rw (← same) e)
 
 -- ---- the header's numbers
-pub header-put : (header vs out : List ℕ) (n m : ℕ) → out ≡ replicate n 0 → vs ≡ wide (headerIn header) → 0 < m → length headerNames ≤ n
-    → written out 0 vs (length headerNames) ≡ lent n (headerTaken header m)
-unfolding headerTaken headerIn
-header-put header vs out n zero z e l h = absurd (omega arith)
-header-put header vs out n (suc m) z e l h =
+pub header-put : (header vs out : List ℕ) (n : ℕ) → out ≡ replicate n 0 → vs ≡ wide (headerIn header) → length headerNames ≤ n
+    → written out 0 vs (length headerNames) ≡ lent n (headerIn header)
+unfolding headerIn
+header-put header vs out n z e h =
     let numbers = headerIn header in
     let w = length-wide numbers (omega arith) in
     rw (z, e, ← (lent-none n)) (written-lent n [] 0 (wide numbers) (length headerNames) refl (omega arith) (omega arith) ∙ ap (lent n) (take-wide numbers))
-
-pub no-header : (header : List ℕ) (m : ℕ) → m ≡ 0 → headerTaken header m ≡ []
-unfolding headerTaken
-no-header header m e = ap (headerTaken header) e
 
 -- of the table's own header row
 pub header-in : (bytes : List ℕ) → headerIn (wide (headerRow bytes)) ≡ headerOf bytes
 unfolding headerIn headerOf
 header-in bytes = rw (converted-wide Reading (layout 0) (headerRow bytes))
-
-pub header-taken : (bytes : List ℕ) (m : ℕ) → 0 < m → headerTaken (wide (headerRow bytes)) m ≡ headerOf bytes
-unfolding headerTaken
-header-taken bytes zero h = absurd (omega arith)
-header-taken bytes (suc m) h = header-in bytes
 
 -- as an array: the numbers of the converted row at their places, and zeros
 pub header-wide : (header row : List ℕ) → row ≡ wide (converted Reading (layout 0) header)

@@ -1,7 +1,10 @@
 -- The contracts settle their answers and what is left in every lent list: two runs that both satisfy one are the same.
 -- Assumes nothing.
 use mathlib.Core.Path.{refl, sym, _∙_}
+use lib.ListN.{getD}
 use Rattle.base.specs.Settles.{Settles}
+use Rattle.table.specs.Lists.{listFor}
+use Rattle.table.specs.Unpack.{counted}
 use Rattle.unpacker.proofs.examine.own_answer.Kinds as own-answer-kinds
 use Rattle.unpacker.proofs.examine.own_answer.Reads as own-answer-reads
 use Rattle.unpacker.proofs.examine.counts_of.Kinds as counts-kinds
@@ -16,35 +19,25 @@ use Rattle.unpacker.proofs.unpack.Kinds as unpack-kinds
 use Rattle.unpacker.proofs.unpack.Reads as unpack-reads
 
 pub unpack-settles : Settles 7 unpack-kinds.ps unpack-kinds.r unpack-reads.Post
-unpack-settles κs a x y ws vs p q = (
-  (λ i. record {
-    answer = (p .answer ∙ sym (q .answer)) i;
-    systems = (p .systems-count ∙ sym (q .systems-count)) i;
-    vls = (p .vls-count ∙ sym (q .vls-count)) i;
-    streams = (p .streams-count ∙ sym (q .streams-count)) i;
-    ports = (p .ports-count ∙ sym (q .ports-count)) i;
-    hops = (p .hops-count ∙ sym (q .hops-count)) i;
-  }),
-  (λ i. (
-    tt,
-    (
-      (p .header-left ∙ sym (q .header-left)) i,
-      (
-        (p .systems-left ∙ sym (q .systems-left)) i,
-        (
-          (p .vls-left ∙ sym (q .vls-left)) i,
-          (
-            (p .streams-left ∙ sym (q .streams-left)) i,
-            (
-              (p .ports-left ∙ sym (q .ports-left)) i,
-              ((p .hops-left ∙ sym (q .hops-left)) i, tt),
-            ),
-          ),
-        ),
-      ),
-    ),
-  )),
-)
+unfolding counted listFor
+unpack-settles κs a x y ws vs p q =
+    let counts = p .counts ∙ sym (q .counts) in
+    let l0 = p .held 0 ∙ sym (q .held 0) in
+    let l1 = p .held 1 ∙ sym (q .held 1) in
+    let l2 = p .held 2 ∙ sym (q .held 2) in
+    let l3 = p .held 3 ∙ sym (q .held 3) in
+    let l4 = p .held 4 ∙ sym (q .held 4) in
+    let l5 = p .held 5 ∙ sym (q .held 5) in (
+      (λ i. record {
+        answer = (p .answer ∙ sym (q .answer)) i;
+        systems = getD (counts i) 0 0;
+        vls = getD (counts i) 1 0;
+        streams = getD (counts i) 2 0;
+        ports = getD (counts i) 3 0;
+        hops = getD (counts i) 4 0;
+      }),
+      (λ i. (tt, (l0 i, (l1 i, (l2 i, (l3 i, (l4 i, (l5 i, tt)))))))),
+    )
 
 pub fill-section-settles : Settles 2 fill-section-kinds.ps fill-section-kinds.r fill-section-reads.Post
 fill-section-settles κs a x y ws vs p q = (refl, (λ i. (tt, (tt, ((p ∙ sym q) i, tt)))))

@@ -16,7 +16,7 @@ ghost use Rattle.layout.specs.declared.Name.the-variants as name;
 ghost use Rattle.layout.specs.Rows.{named};
 ghost use Rattle.table.specs.Sections.{headerRow, version as versionIn, rows, from, row};
 ghost use Rattle.table.specs.Lists.{headerOf};
-ghost use Rattle.unpacker.specs.Unpacking.{RowPlace, countIn, headerIn, tableAnswer, lastAnswer, answerIn, answerOf, placesOf, examined};
+ghost use Rattle.unpacker.specs.Unpacking.{RowPlace, countIn, headerIn, tableAnswer, lastAnswer, answerIn, answerOf, placesOf};
 
 // The header row and the version that it names, the rows of each section, and the byte where each section begins; section 6 would begin where the table ends.
 pub struct Places {
@@ -26,30 +26,12 @@ pub struct Places {
     pub starts: [usize; 7],
 }
 
-// The first of the answers 1 to 4, and the places that the header tells.
-pub struct Examined {
-    pub answer: Answer,
-    pub places: Places,
-}
-
-// The table's own answer, whatever its lists will hold.
-pub(crate) fn examine(table: &[u8]) -> Examined
-    ensures { λ r. ⌜ r ≡ examined (now (table .entry)) ⌝ }
-{
-    let places = places_in(table);
-    let answer = answer_of(table, places);
-    Examined {
-        answer: answer,
-        places: places,
-    }
-}
-
-// The same as an answer alone: 01's answers 1 to 4.
+// The table's own answer, whatever its lists will hold: the first of 01's answers 1 to 4.
 pub fn own_answer(table: &[u8]) -> Answer
     ensures { λ r. ⌜ r ≡ tableAnswer (now (table .entry)) ⌝ }
 {
-    let e = examine(table);
-    e.answer
+    let places = places_in(table);
+    answer_of(table, places)
 }
 
 // The rows of each section, as the header counts them; the header is one row.
@@ -107,7 +89,7 @@ fn count_in(header: [u64; LONGEST], section: usize) -> usize
 }
 
 // The header row, of the first 14 bytes alone: a table that is too long for a row to be read from it has one all the same.
-fn header_of(table: &[u8]) -> [u64; LONGEST]
+pub(crate) fn header_of(table: &[u8]) -> [u64; LONGEST]
     ensures { λ r. ⌜ r ≡ wide (headerRow (now (table .entry))) ⌝ }
 {
     if HEADER_BYTES <= table.len() {

@@ -5,53 +5,27 @@ use layout::Way;
 use layout::sizes::HEADER_LIST;
 use layout::sizes::LONGEST;
 ghost use mathlib.Core.Path.{_≡_};
-ghost use Prim.Native.Nat.{_+_, _≤_, _*_, min};
+ghost use mathlib.Core.List.{[]};
+ghost use Prim.Native.Nat.{_+_, _≤_, min};
+ghost use lib.Dec.{eqb};
 ghost use lib.ListN.{length, replicate};
-ghost use Rattle.layout.specs.Layout.{headerNames};
+ghost use Rattle.base.specs.Pick.{pick};
 ghost use Rattle.table.specs.Sections.{records, lent};
-ghost use Rattle.unpacker.specs.Unpacking.{fitting, Filling, Adding, written, headerTaken, Three, Two, ThreeFilled, TwoFilled};
+ghost use Rattle.unpacker.specs.Unpacking.{fitting, takenOf, Filling, Adding, written};
 
-pub(crate) fn fill_three(
-    table: &[u8],
-    version: u64,
-    taken: [usize; 6],
-    starts: [usize; 7],
-    systems: &mut [u64],
-    vls: &mut [u64],
-    streams: &mut [u64],
-)
-    requires { ⌜ Three (now table) version taken starts (length (now systems)) (length (now vls)) (length (now streams)) ⌝ }
-    ensures { λ _.
-        ⌜
-        ThreeFilled
-        (now (table .entry))
-        taken
-        (now (systems .entry))
-        (now (vls .entry))
-        (now (streams .entry))
-        (now (systems .exit))
-        (now (vls .exit))
-        (now (streams .exit))
-        ⌝ }
+// The list of a section, by the number of the unpacker's answer: nothing but zeros on a refusal.
+pub(crate) fn fill_list(table: &[u8], number: u64, section: usize, out: &mut [u64])
+    ensures { λ _. ⌜ now (out .exit) ≡ lent (length (now (out .entry))) (pick (eqb number 0) (takenOf (now (table .entry)) section (length (now (out .entry)))) []) ⌝ }
 {
-    fill(table, version, 1, starts[1], taken[1], systems);
-    fill(table, version, 2, starts[2], taken[2], vls);
-    fill(table, version, 3, starts[3], taken[3], streams);
-}
-
-pub(crate) fn fill_two(
-    table: &[u8],
-    version: u64,
-    taken: [usize; 6],
-    starts: [usize; 7],
-    ports: &mut [u64],
-    hops: &mut [u64],
-)
-    requires { ⌜ Two (now table) version taken starts (length (now ports)) (length (now hops)) ⌝ }
-    ensures { λ _. ⌜ TwoFilled (now (table .entry)) taken (now (ports .entry)) (now (hops .entry)) (now (ports .exit)) (now (hops .exit)) ⌝ }
-{
-    fill(table, version, 4, starts[4], taken[4], ports);
-    fill(table, version, 5, starts[5], taken[5], hops);
+    if number != 0 {
+        clear(out);
+        return;
+    }
+    if section == 0 {
+        fill_header(table, out);
+        return;
+    }
+    fill_section(table, section, out);
 }
 
 // The records of a section, as many as the list has room for, and zeros; nothing but zeros where there is no such section.
@@ -108,16 +82,20 @@ fn add_record(table: &[u8], version: u64, section: usize, at: usize, i: usize, o
     put_numbers(out, i * n, n, row);
 }
 
-// The header's numbers, where there is a header row to take, and zeros.
-pub(crate) fn fill_header(header: [u64; LONGEST], n: usize, out: &mut [u64])
-    requires { ⌜ n * length headerNames ≤ length (now out) ⌝ }
-    ensures { λ _. ⌜ now (out .exit) ≡ lent (length (now (out .entry))) (headerTaken header n) ⌝ }
+// The header's numbers, where the list has room for them, and zeros.
+fn fill_header(table: &[u8], out: &mut [u64])
+    ensures { λ _. ⌜ now (out .exit) ≡ lent (length (now (out .entry))) (takenOf (now (table .entry)) 0 (length (now (out .entry)))) ⌝ }
 {
     clear(out);
-    if n == 0 {
+    if out.len() < HEADER_LIST {
         return;
     }
-    put_numbers(out, 0, HEADER_LIST, examine::header_numbers(header));
+    put_numbers(
+        out,
+        0,
+        HEADER_LIST,
+        examine::header_numbers(examine::header_of(table)),
+    );
 }
 
 // The first n numbers of a row, from place `at` of the list on.

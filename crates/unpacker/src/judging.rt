@@ -1,82 +1,76 @@
-// The unpacker's answer: the table's own, and behind it 11 where a list is too short.
-// It tells as well which rows are taken of each section, and where they stand.
+// The unpacker's answer: the table's own, and behind it 11 where a list is too short; and the records that it counts, none on a refusal.
+// What a list has to hold is told by the count of its rows.
 use crate::examine;
 use layout::sizes::HEADER_LIST;
-use layout::sizes::LONGEST;
 use table::Answer;
+use table::Unpacked;
 ghost use mathlib.Core.Path.{_≡_};
-ghost use Prim.Native.Nat.{_<_, _*_};
-ghost use lib.Dec.{eqb, leb};
+ghost use Prim.Native.Nat.{_<_};
+ghost use lib.Dec.{eqb};
 ghost use lib.ListN.{replicate};
 ghost use Rattle.base.specs.Pick.{pick};
-ghost use Rattle.layout.specs.Rows.{listed};
-ghost use Rattle.unpacker.specs.Unpacking.{Few, roomIn, judgedAnswer, judged};
+ghost use Rattle.base.specs.Tests.{isSome};
+ghost use Rattle.unpacker.specs.Unpacking.{numbersOf, shortFor, judgedAnswer, Judged};
 
-// The unpacker's answer, the header row and the version that it names, the rows that are taken of each section, none on a refusal, and the byte where each section begins.
-pub struct Judged {
-    pub answer: Answer,
-    pub header: [u64; LONGEST],
-    pub version: u64,
-    pub taken: [usize; 6],
-    pub starts: [usize; 7],
-}
-
-pub(crate) fn judge(table: &[u8], lengths: [usize; 6]) -> Judged
-    ensures { λ r. ⌜ r ≡ judged (now (table .entry)) lengths ⌝ }
+pub(crate) fn judge(table: &[u8], lengths: [usize; 6]) -> Unpacked
+    ensures { λ r. ⌜ Judged (now (table .entry)) lengths r ⌝ }
 {
-    let e = examine::examine(table);
-    let places = e.places;
-    let counts = places.counts;
-    let starts = places.starts;
-    let header = places.header;
-    let answer = answer_with(e.answer, has_room(counts, lengths));
-    let taken = taken_rows(answer, counts);
-    Judged {
+    let answer = answer_with(examine::own_answer(table), is_short(table, lengths));
+    let taken = taken_rows(answer, examine::counts_of(table));
+    Unpacked {
         answer: answer,
-        header: header,
-        version: places.version,
-        taken: taken,
-        starts: starts,
+        systems: taken[1],
+        vls: taken[2],
+        streams: taken[3],
+        ports: taken[4],
+        hops: taken[5],
     }
 }
 
-// Whether a list of this length holds the records of n rows of a section.
-fn holds(n: usize, section: usize, room: usize) -> bool
+// How many numbers n rows of a section take in its list; the header is one row.
+fn numbers_of(section: usize, n: usize) -> usize
     requires { ⌜ n < 4096 ⌝ }
-    ensures { λ r. ⌜ r ≡ leb (n * listed section) room ⌝ }
+    ensures { λ r. ⌜ r ≡ numbersOf section n ⌝ }
 {
-    n * layout::numbers_in(section) <= room
+    if section == 0 {
+        return HEADER_LIST;
+    }
+    n * layout::numbers_in(section)
 }
 
-fn has_room(counts: [usize; 6], lengths: [usize; 6]) -> bool
-    requires { ⌜ Few counts ⌝ }
-    ensures { λ r. ⌜ r ≡ roomIn counts lengths ⌝ }
+// Whether a list is too short for the numbers of its section.
+fn is_short(table: &[u8], lengths: [usize; 6]) -> bool
+    ensures { λ r. ⌜ r ≡ isSome (shortFor (now (table .entry)) lengths) ⌝ }
 {
-    (HEADER_LIST <= lengths[0])
-        & holds(counts[1], 1, lengths[1])
-        & holds(counts[2], 2, lengths[2])
-        & holds(counts[3], 3, lengths[3])
-        & holds(counts[4], 4, lengths[4])
-        & holds(counts[5], 5, lengths[5])
+    let counts = examine::counts_of(table);
+    let mut s = 0;
+    while s < 6 {
+        let n = numbers_of(s, counts[s]);
+        if lengths[s] < n {
+            return true;
+        }
+        s += 1;
+    }
+    false
 }
 
 // Answer 11 where no other is given.
-fn answer_with(answer: Answer, room: bool) -> Answer
-    ensures { λ r. ⌜ r ≡ judgedAnswer answer room ⌝ }
+fn answer_with(answer: Answer, short: bool) -> Answer
+    ensures { λ r. ⌜ r ≡ judgedAnswer answer short ⌝ }
 {
     let number = answer.number;
     if number != 0 {
         return answer;
     }
-    if room {
-        return answer;
+    if short {
+        return Answer {
+            number: 11,
+            section: 0,
+            row: 0,
+            test: 0,
+        };
     }
-    Answer {
-        number: 11,
-        section: 0,
-        row: 0,
-        test: 0,
-    }
+    answer
 }
 
 fn taken_rows(answer: Answer, counts: [usize; 6]) -> [usize; 6]

@@ -10,7 +10,7 @@ pub use examine::own_answer;
 pub use filling::clear;
 pub use filling::fill_section;
 use table::Unpacked;
-ghost use lib.ListN.{length};
+ghost use Rattle.table.specs.Lists.{lists};
 ghost use Rattle.table.specs.Unpack.{Unpacks};
 
 // The header's version and delays, and the table's records, section by section: gaps in milliseconds, speeds in Mbit/s, no padding. Gives the answers 1 to 4 and 11.
@@ -27,21 +27,21 @@ pub fn unpack(
         ⌜
         Unpacks
         (now (table .entry))
-        (record {
-          header = length (now (header .entry));
-          systems = length (now (systems .entry));
-          vls = length (now (vls .entry));
-          streams = length (now (streams .entry));
-          ports = length (now (ports .entry));
-          hops = length (now (hops .entry));
-        })
+        (lists
+        (now (header .entry))
+        (now (systems .entry))
+        (now (vls .entry))
+        (now (streams .entry))
+        (now (ports .entry))
+        (now (hops .entry)))
         r
+        (lists
         (now (header .exit))
         (now (systems .exit))
         (now (vls .exit))
         (now (streams .exit))
         (now (ports .exit))
-        (now (hops .exit))
+        (now (hops .exit)))
         ⌝ }
 {
     let lengths = [
@@ -52,21 +52,14 @@ pub fn unpack(
         ports.len(),
         hops.len(),
     ];
-    let judged = judging::judge(table, lengths);
-    let answer = judged.answer;
-    let row = judged.header;
-    let version = judged.version;
-    let taken = judged.taken;
-    let starts = judged.starts;
-    filling::fill_header(row, taken[0], header);
-    filling::fill_three(table, version, taken, starts, systems, vls, streams);
-    filling::fill_two(table, version, taken, starts, ports, hops);
-    Unpacked {
-        answer: answer,
-        systems: taken[1],
-        vls: taken[2],
-        streams: taken[3],
-        ports: taken[4],
-        hops: taken[5],
-    }
+    let unpacked = judging::judge(table, lengths);
+    let answer = unpacked.answer;
+    let number = answer.number;
+    filling::fill_list(table, number, 0, header);
+    filling::fill_list(table, number, 1, systems);
+    filling::fill_list(table, number, 2, vls);
+    filling::fill_list(table, number, 3, streams);
+    filling::fill_list(table, number, 4, ports);
+    filling::fill_list(table, number, 5, hops);
+    unpacked
 }
