@@ -35,7 +35,7 @@ use Rattle.machine.proofs.Stage.LinkLaws.{Sending}
 use Rattle.machine.proofs.Stage.LinkLaws as Link
 use Rattle.machine.proofs.Stage.MuxLaws
 use Rattle.machine.proofs.Stage.Delay.{Delay, delay-same}
-use Rattle.machine.proofs.Stage.Select.{was-chosen, is-chosen, chosen-weigh, is-passing, was-passing, weigh-one, any}
+use Rattle.machine.proofs.Stage.Select.{was-chosen, is-chosen, chosen-weigh, is-passing, was-passing, weigh-one, any, part-weigh}
 use Rattle.machine.proofs.Lists.Start.{lanes-empty, lanes-names, turn-mem, turn-weigh}
 use Rattle.machine.proofs.Network.Trace.{hand, looks, end-is, sent, sent-is}
 use Rattle.machine.proofs.Network.Windows.{Windows}
@@ -45,11 +45,6 @@ weigh-count : {X : Type 0} (cost : X → ℕ) (c : ℕ) (l : List X) → ((x : X
 unfolding total
 weigh-count cost c [] h = omega arith
 weigh-count cost c (x ∷ l) h = omega (arith, h x (List·Memᴰ·head refl), weigh-count cost c l (λ y m. h y (List·Memᴰ·tail m)))
-
-part-weigh : {X : Type 0} (p : X → Bool) (w : X → ℕ) (l : List X) → weigh (λ x. cond (p x) (w x) 0) l ≤ weigh w l
-unfolding total
-part-weigh p w [] = le-refl 0
-part-weigh p w (x ∷ l) = let one : cond (p x) (w x) 0 ≤ w x = by-test (p x) (λ (n : ℕ). n ≤ w x) (λ h. le-refl (w x)) (λ h. omega arith) in omega (arith, part-weigh p w l)
 
 module _ (net : Network) (sound : Sound net) (r : Run) (per : Permitted net r) (win : Windows net) (v : ℕ) (hv : v < length (net .vls)) where
   abbrev e : ℕ

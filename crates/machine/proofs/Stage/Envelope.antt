@@ -2,19 +2,18 @@
 -- Assumes nothing.
 use Prim.Native.Nat.{ℕ, zero, suc, _+_, _-_, _/_, _≤_, _<_}
 use mathlib.Core.Bool.{Bool, true, false, _&&_}
-use mathlib.Core.List.{List, [], _∷_, List·Memᴰ, List·Memᴰ·head, List·Memᴰ·tail}
+use mathlib.Core.List.{List, List·Memᴰ}
 use mathlib.Core.Logic.{_⊎_, inl, inr, ⊎-elim, dite}
-use mathlib.Core.Path.{_≡_, refl, ap, _∙_}
+use mathlib.Core.Path.{_≡_, refl, sym, ap, _∙_}
 use native.Mathlib.Decide.{decLe}
-use native.Mathlib.Nat.{le-refl, add-zero, add-suc, div-mul-le-self, le-div-iff-mul-le}
+use native.Mathlib.Nat.{le-refl, le-of-eq, le-trans, add-zero, add-suc, div-mul-le-self, le-div-iff-mul-le}
 use native.Mathlib.Omega.{arith}
 use lib.Dec.{leb, T, leb→le, le→leb}
-use Rattle.base.specs.Tabulate.{total}
-use Rattle.base.proofs.Every.{left, right}
+use Rattle.base.proofs.Every.{left, right, is-true}
 use Rattle.station.specs.Station.{Flow, most}
 use Rattle.machine.specs.Sum.{span, count, tally}
 use Rattle.machine.proofs.Lists.Cases.{both}
-use Rattle.machine.proofs.Lists.Sums.{span-suc, span-mono, span-same, span-zeros, upto, upto-none}
+use Rattle.machine.proofs.Lists.Sums.{span-suc, span-mono, span-mono-in, span-zeros, upto, upto-none, weigh-mono, weigh-none}
 use Rattle.machine.proofs.Stage.Select.{any}
 use Rattle.machine.proofs.Stage.Delay.{Delay}
 
@@ -31,32 +30,13 @@ span-tail f a w zero h = ap (span f a) (add-zero w)
 span-tail f a w (suc j) h = ap (span f a) (add-suc w j) ∙ (omega (arith, span-suc f a (w + j), span-tail f a w j h, h (suc (a + (w + j))) (omega arith)))
 
 module _ {X : Type 0} where
-  count-most : (p : X → Bool) (l : List X) → ((x : X) → List·Memᴰ x l → T (p x)) → count any l ≤ count p l
-  unfolding total
-  count-most p [] h = le-refl 0
-  count-most p (x ∷ l) h = omega (arith, count-most p l (λ y m. h y (List·Memᴰ·tail m)), one (p x) (h x (List·Memᴰ·head refl)))
-    where
-      one : (b : Bool) → T b → tally b ≡ 1
-      one true t = refl
-      one false t = absurd t
-
   pub count-any : (p : X → Bool) (l : List X) → count p l ≤ count any l
-  unfolding total
-  count-any p [] = le-refl 0
-  count-any p (x ∷ l) = omega (arith, count-any p l, one (p x))
-    where
-      one : (b : Bool) → tally b ≤ 1
-      one true = le-refl 1
-      one false = omega arith
+  count-any p l = weigh-mono (λ x. tally (p x)) (λ x. 1) l
+      (λ x m. elim (p x) as (λ b. tally b ≤ 1) [ true ↦ le-refl 1 | false ↦ omega arith ])
 
   pub count-none : (p : X → Bool) (l : List X) → ((x : X) → List·Memᴰ x l → T (p x) → ⊥) → count p l ≡ zero
-  unfolding total
-  count-none p [] h = refl
-  count-none p (x ∷ l) h = omega (arith, count-none p l (λ y m. h y (List·Memᴰ·tail m)), one (p x) (h x (List·Memᴰ·head refl)))
-    where
-      one : (b : Bool) → (T b → ⊥) → tally b ≡ 0
-      one true k = absurd (k tt)
-      one false k = refl
+  count-none p l h = weigh-none (λ x. tally (p x)) l
+      (λ x m. (elim (p x) as (λ b. (T b → ⊥) → tally b ≡ 0) [ true ↦ λ k. absurd (k tt) | false ↦ λ k. refl ]) (h x m))
 
   module _ (src out : ℕ → List X) (lo hi : ℕ) (del : Delay src out lo hi)
       (stamp : X → ℕ) (stamped : (t : ℕ) (x : X) → List·Memᴰ x (src t) → stamp x ≡ t) where
@@ -69,16 +49,13 @@ module _ {X : Type 0} where
     out-inside x d t a b y m =
         let k = del .backward t y m in
         let e = stamped (k .at) y (k .there) in
-        both (leb x (stamp y + hi)) (leb (stamp y + lo) (x + d)) (le→leb x (stamp y + hi) (omega (arith, k .most))) (le→leb (stamp y + lo) (x + d) (omega (arith, k .least)))
+        both (leb x (stamp y + hi)) (leb (stamp y + lo) (x + d)) (le→leb x (stamp y + hi) (omega (arith, k .most)))
+        (le→leb (stamp y + lo) (x + d) (omega (arith, k .least)))
 
-    span-inside : (x d k : ℕ) → k ≤ d → span (λ t. count any (out t)) x k ≤ span (λ t. count (inside x d) (out t)) x k
-    unfolding span
-    span-inside x d zero h = count-most (inside x d) (out x) (out-inside x d x (le-refl x) (omega arith))
-    span-inside x d (suc k) h = omega (
-      arith,
-      span-inside x d k (omega arith),
-      count-most (inside x d) (out (suc (x + k))) (out-inside x d (suc (x + k)) (omega arith) (omega arith)),
-    )
+    span-inside : (x d : ℕ) → span (λ t. count any (out t)) x d ≤ span (λ t. count (inside x d) (out t)) x d
+    span-inside x d = span-mono-in (λ t. count any (out t)) (λ t. count (inside x d) (out t)) x d
+        (λ t a b. weigh-mono (λ y. 1) (λ y. tally (inside x d y)) (out t)
+        (λ y m. le-of-eq (ap tally (sym (is-true (inside x d y) (out-inside x d t a b y m))))))
 
     src-outside : (x d t : ℕ) → (t + hi < x) ⊎ (x + d < t + lo) → count (inside x d) (src t) ≡ zero
     unfolding inside
@@ -88,19 +65,19 @@ module _ {X : Type 0} where
         let b = leb→le (stamp y + lo) (x + d) (right (leb x (stamp y + hi)) (leb (stamp y + lo) (x + d)) i) in
         ⊎-elim (λ g. omega arith) (λ g. omega arith) h)
 
-    -- all that is out between x and x + d was in the source in a span of at most d and the stage's spread
-    early : (x d : ℕ) → x + d < lo → (k : ℕ) → k ≤ d → span (λ t. count any (out t)) x k ≡ zero
-    unfolding span
-    early x d h zero k = count-none any (out x) (λ y m i. let b = del .backward x y m in omega (arith, b .least))
-    early x d h (suc j) k = omega (arith, early x d h j (omega arith), count-none any (out (suc (x + j))) (λ y m i. let b = del .backward (suc (x + j)) y m in omega (arith, b .least)))
+    none-out : (x d : ℕ) → ((t : ℕ) → t ≤ x + d → (y : X) → List·Memᴰ y (out t) → ⊥) → span (λ t. count any (out t)) x d ≤ 0
+    none-out x d h = le-trans
+        (span-mono-in (λ t. count any (out t)) (λ t. zero) x d (λ t a b. le-of-eq (count-none any (out t) (λ y m i. h t b y m))))
+        (le-of-eq (span-zeros x d))
 
+    -- all that is out between x and x + d was in the source in a span of at most d and the stage's spread
     window : (x d : ℕ) → lo ≤ hi → lo ≤ x + d → span (λ t. count any (out t)) x d ≤ span (λ t. count any (src t)) (x - hi) (x + d - lo - (x - hi))
     window x d order h =
         let a : ℕ = x - hi in
         let w : ℕ = x + d - lo - a in
         let f : ℕ → ℕ = λ t. count (inside x d) (src t) in
         let g : ℕ → ℕ = λ t. count (inside x d) (out t) in
-        let s₁ = span-inside x d d (le-refl d) in
+        let s₁ = span-inside x d in
         let s₂ : upto g (suc (x + d)) ≡ upto g x + span g x d = upto-split g x d in
         let s₃ = del .weighed (λ y. tally (inside x d y)) (suc (x + d)) in
         let s₄ : upto f (suc (a + (w + lo))) ≡ upto f a + span f a (w + lo) = upto-split f a (w + lo) in
@@ -121,10 +98,5 @@ module _ {X : Type 0} where
           rate (x - hi) (x + d - lo - (x - hi)),
           div-mono (x + d - lo - (x - hi) + f .jitter) (d + (f .jitter + (hi - lo))) (f .period) pos (omega arith),
         ))
-        (λ h. omega (arith, early x d (omega arith) d (le-refl d))))
-        (λ o. omega (
-          arith,
-          span-same (λ t. count any (out t)) (λ t. zero)
-              (λ t. count-none any (out t) (λ y m i. let b = del .backward t y m in omega (arith, b .least, b .most))) x d,
-          span-zeros x d,
-        ))
+        (λ h. omega (arith, none-out x d (λ t b y m. let k = del .backward t y m in omega (arith, k .least)))))
+        (λ o. omega (arith, none-out x d (λ t b y m. let k = del .backward t y m in omega (arith, k .least, k .most))))

@@ -2,12 +2,12 @@
 -- Assumes nothing.
 use Prim.Native.Nat.{ℕ, zero, suc, _+_, _≤_, _<_}
 use mathlib.Core.Bool.{Bool, true, false, cond, not}
-use mathlib.Core.List.{List, [], _∷_, _++_, List·Memᴰ, List·Memᴰ·head, List·Memᴰ·tail, List·Permᴰ, List·Permᴰ·nil, List·Permᴰ·cons, List·Permᴰ·trans, Permᴰ·symm, Permᴰ·middle, Memᴰ·append-left, Memᴰ·append-right, append-nil, List·Memᴰ·not-nil, List·Memᴰ·cases-cons, List·Memᴰ·append-cases}
+use mathlib.Core.List.{List, [], _∷_, _++_, List·Memᴰ, List·Memᴰ·head, List·Memᴰ·tail, List·Permᴰ, List·Permᴰ·nil, List·Permᴰ·cons, List·Permᴰ·trans, Permᴰ·symm, Permᴰ·middle, Memᴰ·append-left, Memᴰ·append-right, append-nil, append-assoc, List·Memᴰ·not-nil, List·Memᴰ·cases-cons, List·Memᴰ·append-cases}
 use mathlib.Core.Logic.{_⊎_, ⊎-elim, _≢_}
 use mathlib.Core.Path.{_≡_, refl, sym, ap, _∙_, subst}
 use native.Mathlib.Nat.{le-refl, eq-or-lt-of-le, le-of-suc-le-suc}
 use native.Mathlib.Omega.{arith}
-use lib.Dec.{T, eqb}
+use lib.Dec.{T, eqb, eqb-refl}
 use lib.ListN.{length}
 use Rattle.base.specs.Tabulate.{total, passing}
 use Rattle.base.proofs.Every.{is-true}
@@ -17,16 +17,13 @@ use Rattle.machine.specs.Lists.{chosen, gather}
 use Rattle.machine.specs.Messages.{Frame, copy, ofHop}
 use Rattle.machine.proofs.Lists.Cases.{by-test, by-eqb}
 use Rattle.machine.proofs.Lists.Orders.{gather-append}
-use Rattle.machine.proofs.Lists.Sums.{upto, upto-few, weigh-append}
+use Rattle.machine.proofs.Lists.Sums.{upto, upto-few, weigh-append, weigh-same, weigh-mono}
 
 -- one more number at the end, if it passes
 pub passing-suc : (q : ℕ → Bool) (n : ℕ) → passing q (suc n) ≡ passing q n ++ cond (q n) (n ∷ []) []
 unfolding passing
-passing-suc q n = go (q n)
-  where
-    go : (b : Bool) → elim b [ true ↦ passing q n ++ (n ∷ []) | false ↦ passing q n ] ≡ passing q n ++ cond b (n ∷ []) []
-    go true = refl
-    go false = sym (append-nil (passing q n))
+passing-suc q n = elim (q n) as (λ b. elim b [ true ↦ passing q n ++ (n ∷ []) | false ↦ passing q n ] ≡ passing q n ++ cond b (n ∷ []) [])
+    [ true ↦ refl | false ↦ sym (append-nil (passing q n)) ]
 
 abbrev pub any : {X : Type 0} → X → Bool
 any x = true
@@ -56,67 +53,57 @@ module _ {X Y : Type 0} (p : X → Bool) (f : X → Y) where
   pub chosen-weigh : (w : Y → ℕ) (l : List X) → weigh w (chosen p f l) ≡ weigh (λ x. cond (p x) (w (f x)) 0) l
   unfolding total
   chosen-weigh w [] = refl
-  chosen-weigh w (x ∷ l) = go (chosen-weigh w l) (p x)
-    where
-      go : weigh w (chosen p f l) ≡ weigh (λ z. cond (p z) (w (f z)) 0) l → (c : Bool)
-          → weigh w (cond c (f x ∷ []) [] ++ chosen p f l) ≡ cond c (w (f x)) 0 + weigh (λ z. cond (p z) (w (f z)) 0) l
-      go e true = omega arith
-      go e false = omega arith
+  chosen-weigh w (x ∷ l) =
+      let one : weigh w (cond (p x) (f x ∷ []) []) ≡ cond (p x) (w (f x)) 0 =
+      elim (p x) as (λ b. weigh w (cond b (f x ∷ []) []) ≡ cond b (w (f x)) 0) [ true ↦ omega arith | false ↦ refl ] in
+      omega (arith, weigh-append w (cond (p x) (f x ∷ []) []) (chosen p f l), chosen-weigh w l)
 
   pub chosen-any : (l : List X) → count any (chosen p f l) ≡ count p l
-  unfolding total
-  chosen-any [] = refl
-  chosen-any (x ∷ l) = go (chosen-any l) (p x)
-    where
-      go : count any (chosen p f l) ≡ count p l → (c : Bool) → count any (cond c (f x ∷ []) [] ++ chosen p f l) ≡ tally c + count p l
-      go e true = omega arith
-      go e false = omega arith
+  chosen-any l = chosen-weigh (λ y. 1) l ∙ weigh-same (λ x. cond (p x) 1 0) (λ x. tally (p x)) l
+      (λ x m. elim (p x) as (λ b. cond b 1 0 ≡ tally b) [ true ↦ refl | false ↦ refl ])
 
   pub chosen-append : (a b : List X) → chosen p f (a ++ b) ≡ chosen p f a ++ chosen p f b
   chosen-append [] b = refl
-  chosen-append (x ∷ a) b = go (chosen-append a b) (p x)
-    where
-      go : chosen p f (a ++ b) ≡ chosen p f a ++ chosen p f b → (c : Bool) → cond c (f x ∷ []) [] ++ chosen p f (a ++ b) ≡ (cond c (f x ∷ []) [] ++ chosen p f a) ++ chosen p f b
-      go e true = ap (λ (l : List Y). f x ∷ l) e
-      go e false = e
+  chosen-append (x ∷ a) b = rw (chosen-append a b) (sym (append-assoc (cond (p x) (f x ∷ []) []) (chosen p f a) (chosen p f b)))
+
+  chosen-gather : (g : ℕ → List X) (ns : List ℕ) → chosen p f (gather g ns) ≡ gather (λ i. chosen p f (g i)) ns
+  chosen-gather g [] = refl
+  chosen-gather g (n ∷ ns) = rw (chosen-append (g n) (gather g ns), chosen-gather g ns)
+
+-- what is gathered of numbers of which only one has anything
+pub gather-one : {X : Type 0} (f : ℕ → List X) (v : ℕ) → ((i : ℕ) → i ≢ v → f i ≡ []) → (q : ℕ → Bool) → T (q v) → (n : ℕ)
+    → (n ≤ v → gather f (passing q n) ≡ []) × (v < n → gather f (passing q n) ≡ f v)
+unfolding passing
+gather-one f v none q t zero = (λ h. refl, λ h. absurd (omega arith))
+gather-one {X} f v none q t (suc n) =
+    let i = gather-one f v none q t n in
+    let last : gather f (cond (q n) (n ∷ []) []) ≡ cond (q n) (f n) [] =
+    elim (q n) as (λ b. gather f (cond b (n ∷ []) []) ≡ cond b (f n) []) [ true ↦ append-nil (f n) | false ↦ refl ] in
+    let all = ap (gather f) (passing-suc q n) ∙ gather-append f (passing q n) (cond (q n) (n ∷ []) []) ∙ ap (λ (l : List X). gather f (passing q n) ++ l) last in
+    let other : n ≢ v → cond (q n) (f n) [] ≡ [] =
+    λ e. rw (none n e) (elim (q n) as (λ b. cond {A = List X} b [] [] ≡ []) [ true ↦ refl | false ↦ refl ]) in (
+      λ h. all ∙ rw (i .0 (omega arith)) (other (omega arith)),
+      λ h. ⊎-elim
+          (λ (e : v ≡ n). all ∙ rw (i .0 (omega arith), ← e, is-true (q v) t))
+          (λ (l : v < n). all ∙ rw (i .1 l, other (omega arith)) (append-nil (f v)))
+          (eq-or-lt-of-le (le-of-suc-le-suc h)),
+    )
 
 -- ---- the copies of one hop among those of all hops of a port
-same-hop : (h i : ℕ) → i ≡ h → (l : List Frame) → ofHop h (chosen (λ f. true) (copy i) l) ≡ l
-same-hop h i e [] = refl
-same-hop h i e (f ∷ l) = by-eqb i h (λ (o : List Frame). o ++ ofHop h (chosen (λ g. true) (copy i) l) ≡ f ∷ l)
-    (λ k. ap (λ (m : List Frame). f ∷ m) (same-hop h i e l)) (λ k. absurd (k e))
+same-hop : (h : ℕ) (l : List Frame) → ofHop h (chosen any (copy h) l) ≡ l
+same-hop h [] = refl
+same-hop h (f ∷ l) = rw (is-true (eqb h h) (eqb-refl h), same-hop h l)
 
-other-hop : (h i : ℕ) → i ≢ h → (l : List Frame) → ofHop h (chosen (λ f. true) (copy i) l) ≡ []
+other-hop : (h i : ℕ) → i ≢ h → (l : List Frame) → ofHop h (chosen any (copy i) l) ≡ []
 other-hop h i e [] = refl
-other-hop h i e (f ∷ l) = by-eqb i h (λ (o : List Frame). o ++ ofHop h (chosen (λ g. true) (copy i) l) ≡ []) (λ k. absurd (e k)) (λ k. other-hop h i e l)
+other-hop h i e (f ∷ l) = by-eqb i h (λ (o : List Frame). o ++ ofHop h (chosen any (copy i) l) ≡ []) (λ k. absurd (e k)) (λ k. other-hop h i e l)
 
-module _ (h : ℕ) (q : ℕ → Bool) (g : ℕ → List Frame) where
-  abbrev hops-to : ℕ → List Frame
-  hops-to n = ofHop h (gather (λ i. chosen (λ f. true) (copy i) (g i)) (passing q n))
-
-  hops-suc : (n : ℕ) → hops-to (suc n) ≡ hops-to n ++ ofHop h (gather (λ i. chosen (λ f. true) (copy i) (g i)) (cond (q n) (n ∷ []) []))
-  hops-suc n = ap (λ (ns : List ℕ). ofHop h (gather (λ i. chosen (λ f. true) (copy i) (g i)) ns)) (passing-suc q n) ∙ ap (ofHop h) (gather-append (λ i. chosen (λ f. true) (copy i) (g i)) (passing q n) (cond (q n) (n ∷ []) []))
-      ∙ chosen-append (λ c. eqb (c .hop) h) (λ c. c .frame) (gather (λ i. chosen (λ f. true) (copy i) (g i)) (passing q n)) (gather (λ i. chosen (λ f. true) (copy i) (g i)) (cond (q n) (n ∷ []) []))
-
-  hop-last : (n : ℕ) → n ≢ h → ofHop h (gather (λ i. chosen (λ f. true) (copy i) (g i)) (cond (q n) (n ∷ []) [])) ≡ []
-  hop-last n e = by-test (q n) (λ (ns : List ℕ). ofHop h (gather (λ i. chosen (λ f. true) (copy i) (g i)) ns) ≡ [])
-      (λ k. ap (ofHop h) (append-nil (chosen (λ f. true) (copy n) (g n))) ∙ other-hop h n e (g n)) (λ k. refl)
-
-  hops-below : (n : ℕ) → n ≤ h → hops-to n ≡ []
-  unfolding passing
-  hops-below zero k = refl
-  hops-below (suc n) k = hops-suc n ∙ ap (λ (l : List Frame). l ++ ofHop h (gather (λ i. chosen (λ f. true) (copy i) (g i)) (cond (q n) (n ∷ []) []))) (hops-below n (omega arith)) ∙ hop-last n (omega arith)
-
-  pub hops-at : T (q h) → (n : ℕ) → h < n → hops-to n ≡ g h
-  hops-at t (suc n) k = ⊎-elim
-      (λ (e′ : h ≡ n). let e = sym e′ in hops-suc n ∙ ap (λ (l : List Frame). l ++ ofHop h (gather (λ i. chosen (λ f. true) (copy i) (g i)) (cond (q n) (n ∷ []) []))) (hops-below n (omega arith))
-      ∙ by-test (q n) (λ (ns : List ℕ). ofHop h (gather (λ i. chosen (λ f. true) (copy i) (g i)) ns) ≡ g h)
-      (λ j. ap (ofHop h) (append-nil (chosen (λ f. true) (copy n) (g n))) ∙ same-hop h n e (g n) ∙ ap g e)
-      (λ j. absurd (j (subst (λ (m : ℕ). T (q m)) (sym e) t))))
-      (λ (l : h < n). hops-suc n
-      ∙ ap (λ (m : List Frame). hops-to n ++ m) (hop-last n (omega arith)) ∙ append-nil (hops-to n) ∙ hops-at t n l)
-      (eq-or-lt-of-le (le-of-suc-le-suc k))
-  hops-at t zero k = absurd (omega arith)
+pub hops-at : (h : ℕ) (q : ℕ → Bool) (g : ℕ → List Frame) → T (q h) → (n : ℕ) → h < n
+    → ofHop h (gather (λ i. chosen any (copy i) (g i)) (passing q n)) ≡ g h
+hops-at h q g t n l =
+    chosen-gather (λ c. eqb (c .hop) h) (λ c. c .frame) (λ i. chosen any (copy i) (g i)) (passing q n)
+    ∙ gather-one (λ i. ofHop h (chosen any (copy i) (g i))) h (λ i e. other-hop h i e (g i)) q t n .1 l
+    ∙ same-hop h (g h)
 
 -- ---- the numbers below n that pass a test
 pub is-passing : (q : ℕ → Bool) (n i : ℕ) → i < n → T (q i) → List·Memᴰ i (passing q n)
@@ -141,19 +128,16 @@ weigh-one g v h q n =
     let part : (i : ℕ) → f i ≤ g i = λ i. elim (q i) as (λ b. cond b (g i) 0 ≤ g i) [ true ↦ le-refl (g i) | false ↦ omega arith ] in
     omega (arith, weigh-passing g q n, upto-few f v (λ i e. omega (arith, part i, h i e)) n, part v)
 
+pub part-weigh : {X : Type 0} (p : X → Bool) (w : X → ℕ) (l : List X) → weigh (λ x. cond (p x) (w x) 0) l ≤ weigh w l
+part-weigh p w l = weigh-mono (λ x. cond (p x) (w x) 0) w l
+    (λ x m. elim (p x) as (λ b. cond b (w x) 0 ≤ w x) [ true ↦ le-refl (w x) | false ↦ omega arith ])
+
 pub count-chosen : {X : Type 0} (p q : X → Bool) (l : List X) → count q (chosen p (λ x. x) l) ≤ count q l
-unfolding total
-count-chosen p q [] = le-refl 0
-count-chosen {X} p q (x ∷ l) = go (count-chosen p q l) (p x)
-  where
-    go : count q (chosen p (λ z. z) l) ≤ count q l → (c : Bool) → count q (cond c (x ∷ []) [] ++ chosen p (λ z. z) l) ≤ tally (q x) + count q l
-    go e true = omega arith
-    go e false = omega arith
+count-chosen p q l = rw (chosen-weigh p (λ x. x) (λ x. tally (q x)) l) (part-weigh p (λ x. tally (q x)) l)
 
 pub chosen-all : {X : Type 0} (p : X → Bool) (l : List X) → ((x : X) → List·Memᴰ x l → T (p x)) → chosen p (λ x. x) l ≡ l
 chosen-all p [] h = refl
-chosen-all {X} p (x ∷ l) h = by-test (p x) (λ (o : List X). o ++ chosen p (λ z. z) l ≡ x ∷ l)
-    (λ k. ap (λ (m : List X). x ∷ m) (chosen-all p l (λ y m. h y (List·Memᴰ·tail m)))) (λ k. absurd (k (h x (List·Memᴰ·head refl))))
+chosen-all p (x ∷ l) h = rw (is-true (p x) (h x (List·Memᴰ·head refl)), chosen-all p l (λ y m. h y (List·Memᴰ·tail m)))
 
 -- those that pass a test behind those that do not
 abbrev pub behind : {X : Type 0} → (X → Bool) → List X → List X
@@ -161,11 +145,12 @@ behind q l = chosen (λ x. not (q x)) (λ x. x) l ++ chosen q (λ x. x) l
 
 pub behind-perm : {X : Type 0} (q : X → Bool) (l : List X) → List·Permᴰ l (behind q l)
 behind-perm q [] = List·Permᴰ·nil
-behind-perm {X} q (x ∷ l) = go (behind-perm q l) (q x)
-  where
-    go : List·Permᴰ l (behind q l) → (b : Bool) → List·Permᴰ (x ∷ l) ((cond (not b) (x ∷ []) [] ++ chosen (λ z. not (q z)) (λ z. z) l) ++ (cond b (x ∷ []) [] ++ chosen q (λ z. z) l))
-    go h true = List·Permᴰ·trans (List·Permᴰ·cons refl h) (Permᴰ·symm (Permᴰ·middle x (chosen (λ z. not (q z)) (λ z. z) l) (chosen q (λ z. z) l)))
-    go h false = List·Permᴰ·cons refl h
+behind-perm q (x ∷ l) =
+    let front = chosen (λ z. not (q z)) (λ z. z) l in
+    let back = chosen q (λ z. z) l in
+    let h = List·Permᴰ·cons {a = x} refl (behind-perm q l) in
+    elim (q x) as (λ b. List·Permᴰ (x ∷ l) ((cond (not b) (x ∷ []) [] ++ front) ++ (cond b (x ∷ []) [] ++ back)))
+    [ true ↦ List·Permᴰ·trans h (Permᴰ·symm (Permᴰ·middle x front back)) | false ↦ h ]
 
 -- a list that is not empty is what stands before its last, and its last
 pub record Ended {X : Type 0} (l : List X) : Type 0 where
