@@ -1,18 +1,17 @@
 -- A VL with one sub-link: its queue is a FIFO, and what was brought last leaves last.
 -- Assumes nothing.
 use Prim.Native.Nat.{ℕ, zero, suc, _≤_, _<_}
-use mathlib.Core.Bool.{cond}
 use mathlib.Core.List.{List, [], _∷_, _++_, append-nil}
 use mathlib.Core.Logic.{⊎-elim}
-use mathlib.Core.Option.{none, some}
-use mathlib.Core.Path.{_≡_, refl, sym, _∙_, subst}
+use mathlib.Core.Option.{Option, none, some}
+use mathlib.Core.Path.{_≡_, refl, sym, subst}
 use native.Mathlib.Nat.{eq-or-lt-of-le}
 use native.Mathlib.Omega.{arith}
-use lib.Dec.{leb}
 use lib.ListN.{length}
 use Rattle.machine.specs.Turn.{Lane, add, serve}
-use Rattle.machine.specs.Queue.{Queue, Handed, hand}
+use Rattle.machine.specs.Queue.{Queue, Handed, hand, handOver}
 use Rattle.machine.proofs.Lists.Cases.{by-leb}
+use Rattle.machine.proofs.Lists.Lanes.{listed}
 use Rattle.machine.proofs.Stage.Parts.{queue-tick, queue, handed}
 
 module _ {X : Type 0} where
@@ -33,12 +32,13 @@ module _ {X : Type 0} where
   unfolding Ends-in
   ends-one x l = ends-over x l (x ∷ []) (omega arith) refl
 
-  pub ends-less : (x y : X) (l : List X) → Ends-in x (y ∷ l) → Ends-in x l
+  ends-less : (x : X) (o : Option X) (l : List X) → Ends-in x (listed o ++ l) → Ends-in x l
   unfolding Ends-in
-  ends-less x y [] e = tt
-  ends-less x y (z ∷ l) e = e
+  ends-less x none l e = e
+  ends-less x (some y) [] e = tt
+  ends-less x (some y) (z ∷ l) e = e
 
-  pub ends-last : (x y : X) (l : List X) → Ends-in x (y ∷ l) → length l ≡ zero → y ≡ x
+  ends-last : (x y : X) (l : List X) → Ends-in x (y ∷ l) → length l ≡ zero → y ≡ x
   unfolding Ends-in
   ends-last x y [] e h = e
   ends-last x y (z ∷ l) e h = absurd (omega arith)
@@ -46,73 +46,39 @@ module _ {X : Type 0} where
   abbrev pub lane : List X → Lane X
   lane l = record { name = 0; line = l }
 
-  -- what a tick does with the one queue m, its arrivals in it
-  pub data Stepped (m : List X) (h : Handed X) : Type 0 where
-    keeps : h .got ≡ none → h .queue .lanes ≡ lane m ∷ [] → Stepped m h
-    gives : (y : X) (l : List X) → m ≡ y ∷ l → h .got ≡ some y → h .queue .lanes ≡ lane l ∷ [] → Stepped m h
+  -- the one queue, its arrivals in it, is what a tick hands over and what it leaves
+  abbrev Left : List X → Handed X → Type 0
+  Left m h = (l : List X) × (h .queue .lanes ≡ lane l ∷ []) × (m ≡ listed (h .got) ++ l)
 
-  serves : (gap t nx : ℕ) (m : List X) → Stepped m (hand gap t nx (serve [] (lane m ∷ []) .lanes) (serve [] (lane m ∷ []) .got))
-  serves gap t nx [] = keeps refl refl
-  serves gap t nx (y ∷ l) = gives y l refl refl refl
+  serves : (gap t nx : ℕ) (m : List X) → Left m (hand gap t nx (serve [] (lane m ∷ []) .lanes) (serve [] (lane m ∷ []) .got))
+  serves gap t nx [] = ([], refl, refl)
+  serves gap t nx (y ∷ l) = (l, refl, refl)
 
-  pub stepped : (gap t : ℕ) (f : ℕ → List X) (s : Queue X) (l : List X) → s .lanes ≡ lane l ∷ [] → Stepped (l ++ f 0) (queue-tick gap t f s)
-  stepped gap t f s l e = go (s .lanes) e
-    where
-      go : (ls : List (Lane X)) → ls ≡ lane l ∷ []
-          → Stepped (l ++ f 0) (cond (leb (s .next) t) (hand gap t (s .next) (serve [] (add f ls) .lanes) (serve [] (add f ls) .got)) (hand gap t (s .next) (add f ls) none))
-      go ls h = subst (λ (k : List (Lane X)). Stepped (l ++ f 0) (cond (leb (s .next) t) (hand gap t (s .next) (serve [] (add f k) .lanes) (serve [] (add f k) .got)) (hand gap t (s .next) (add f k) none)))
-          (sym h)
-          (by-leb (s .next) t (λ (o : Handed X). Stepped (l ++ f 0) o) (λ g. serves gap t (s .next) (l ++ f 0)) (λ g. keeps refl refl))
+  left : (gap t : ℕ) (f : ℕ → List X) (s : Queue X) (l : List X) → s .lanes ≡ lane l ∷ [] → Left (l ++ f 0) (queue-tick gap t f s)
+  left gap t f s l e = subst (λ (ls : List (Lane X)). Left (l ++ f 0) (handOver gap t (record { lanes = add f ls; next = s .next }))) (sym e)
+      (by-leb (s .next) t (Left (l ++ f 0)) (λ g. serves gap t (s .next) (l ++ f 0)) (λ g. (l ++ f 0, refl, refl)))
 
   module _ (gap : ℕ) (s₀ : Queue X) (new : ℕ → ℕ → List X) (one : s₀ .lanes ≡ lane [] ∷ []) where
-    pub record At (t : ℕ) : Type 0 where
-      pub line : List X
-      pub is : queue gap s₀ new t .lanes ≡ lane line ∷ []
-
-    pub at : (t : ℕ) → At t
+    at : (t : ℕ) → (l : List X) × (queue gap s₀ new t .lanes ≡ lane l ∷ [])
     unfolding queue
-    at zero = record { line = []; is = one }
-    at (suc t) = next (at t .line) (stepped gap t (new t) (queue gap s₀ new t) (at t .line) (at t .is))
-      where
-        next : (l : List X) → Stepped (l ++ new t 0) (queue-tick gap t (new t) (queue gap s₀ new t)) → At (suc t)
-        next l (keeps g e) = record { line = l ++ new t 0; is = e }
-        next l (gives y k m g e) = record { line = k; is = e }
+    at zero = ([], one)
+    at (suc t) = let w = left gap t (new t) (queue gap s₀ new t) (at t .0) (at t .1) in (w .0, w .1)
+
+    next : (t : ℕ) → at t .0 ++ new t 0 ≡ listed (handed gap s₀ new t) ++ at (suc t) .0
+    unfolding at handed
+    next t = left gap t (new t) (queue gap s₀ new t) (at t .0) (at t .1) .2
 
     -- nothing is brought after tick n, and what is brought in it ends with x
     module _ (x : X) (n : ℕ) (some-come : 0 < length (new n 0)) (by-x : Ends-in x (new n 0)) (no-more : (t : ℕ) → n < t → new t 0 ≡ []) where
-      pub record Tail (t : ℕ) : Type 0 where
-        pub line : List X
-        pub is : queue gap s₀ new t .lanes ≡ lane line ∷ []
-        pub ends : Ends-in x (line ++ new t 0)
-
-      after : (t : ℕ) (l : List X) → n < t → queue gap s₀ new t .lanes ≡ lane l ∷ [] → Ends-in x l → Tail t
-      after t l h e k = record { line = l; is = e; ends = subst (λ (z : List X). Ends-in x (l ++ z)) (sym (no-more t h)) (subst (λ (z : List X). Ends-in x z) (sym (append-nil l)) k) }
-
-      here : (t : ℕ) → n ≡ t → Tail t
-      here t e = subst Tail e (record { line = at n .line; is = at n .is; ends = ends-over x (at n .line) (new n 0) some-come by-x })
-
-      step : (t : ℕ) → n ≤ t → (w : Tail t) → Stepped (w .line ++ new t 0) (queue-tick gap t (new t) (queue gap s₀ new t)) → Tail (suc t)
-      unfolding queue
-      step t h w (keeps g e) = after (suc t) (w .line ++ new t 0) (omega arith) e (w .ends)
-      step t h w (gives y l m g e) = after (suc t) l (omega arith) e (ends-less x y l (subst (λ (z : List X). Ends-in x z) m (w .ends)))
-
-      pub tail : (t : ℕ) → n ≤ t → Tail t
-      tail zero h = here zero (omega arith)
-      tail (suc t) h = ⊎-elim (λ e. here (suc t) e)
-          (λ l. let w = tail t (omega arith) in step t (omega arith) w (stepped gap t (new t) (queue gap s₀ new t) (w .line) (w .is)))
+      tail : (t : ℕ) → n ≤ t → Ends-in x (at t .0 ++ new t 0)
+      tail zero h = let e : n ≡ zero = omega arith in subst (λ (u : ℕ). Ends-in x (at u .0 ++ new u 0)) e (ends-over x (at n .0) (new n 0) some-come by-x)
+      tail (suc t) h = ⊎-elim
+          (λ e. subst (λ (u : ℕ). Ends-in x (at u .0 ++ new u 0)) e (ends-over x (at n .0) (new n 0) some-come by-x))
+          (λ l. rw (no-more (suc t) l, append-nil (at (suc t) .0))
+          (ends-less x (handed gap s₀ new t) (at (suc t) .0) (rw (next t) at (tail t (omega arith)))))
           (eq-or-lt-of-le h)
 
       -- what is handed over while nothing else is left is x
-      pub last-out : (t : ℕ) (y : X) → n ≤ t → handed gap s₀ new t ≡ some y → ((l : List X) → queue gap s₀ new (suc t) .lanes ≡ lane l ∷ [] → length l ≡ zero) → y ≡ x
-      unfolding queue handed
-      last-out t y h e z = go (tail t h)
-        where
-          go : Tail t → y ≡ x
-          go w = next (stepped gap t (new t) (queue gap s₀ new t) (w .line) (w .is))
-            where
-              next : Stepped (w .line ++ new t 0) (queue-tick gap t (new t) (queue gap s₀ new t)) → y ≡ x
-              next (keeps g k) = absurd (mathlib.Core.Option.Option·none-ne-some y (sym g ∙ e))
-              next (gives u l m g k) =
-                  let e′ : some u ≡ some y = sym g ∙ e in
-                  let e″ : u ≡ y = cc in
-                  sym e″ ∙ ends-last x u l (subst (λ (q : List X). Ends-in x q) m (w .ends)) (z l k)
+      pub last-out : (t : ℕ) (y : X) → n ≤ t → handed gap s₀ new t ≡ some y
+          → ((l : List X) → queue gap s₀ new (suc t) .lanes ≡ lane l ∷ [] → length l ≡ zero) → y ≡ x
+      last-out t y h e z = ends-last x y (at (suc t) .0) (rw (next t, e) at (tail t h)) (z (at (suc t) .0) (at (suc t) .1))
