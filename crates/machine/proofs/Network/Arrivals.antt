@@ -4,16 +4,17 @@ use Prim.Native.Nat.{ℕ, suc, _+_, _*_, _≤_, _<_}
 use mathlib.Core.Bool.{Bool, true, false, cond, _&&_}
 use mathlib.Core.List.{List, [], _∷_, _++_, List·Memᴰ, List·Memᴰ·head, List·Memᴰ·tail, List·Memᴰ·not-nil, List·Memᴰ·append-cases, Memᴰ·append-left, Memᴰ·append-right, Permᴰ·symm}
 use mathlib.Core.Logic.{⊎-elim}
-use mathlib.Core.Path.{_≡_, refl, sym, ap, _∙_, subst}
-use native.Mathlib.Nat.{mul-assoc, le-of-eq, le-refl, le-trans}
+use mathlib.Core.Path.{_≡_, refl, sym, ap, subst}
+use native.Mathlib.Nat.{mul-assoc, le-refl}
 use native.Mathlib.Omega.{arith}
 use lib.Dec.{eqb, T}
 use lib.ListN.{length, length-append}
 use Rattle.base.specs.Tabulate.{total}
+use Rattle.base.proofs.Every.{is-true}
 use Rattle.frame.specs.Packets.{packets}
 use Rattle.network.specs.Network.{Network, vlAt, streamAt}
 use Rattle.rows.specs.Queues.{queueFlow}
-use Rattle.station.specs.Station.{Flow, most}
+use Rattle.station.specs.Station.{most}
 use Rattle.machine.specs.Sum.{span, count, weigh, tally}
 use Rattle.machine.specs.Lists.{chosen}
 use Rattle.machine.specs.Pool.{Due, setOut, landed}
@@ -24,10 +25,9 @@ use Rattle.machine.specs.Sound.{Sound}
 use Rattle.machine.proofs.Lists.Orders.{perm-mem}
 use Rattle.machine.proofs.Lists.Cases.{by-test}
 use Rattle.machine.proofs.Stage.Parts.{lands}
-use Rattle.machine.proofs.Lists.Sums.{span-same}
 use Rattle.machine.proofs.Stage.Delay.{Delay, _then_, reordered, on-the-way, landed-from, delay-chosen, delay-same, looser}
 use Rattle.machine.proofs.Stage.Envelope.{envelope}
-use Rattle.machine.proofs.Stage.Select.{chosen-any, was-chosen, any}
+use Rattle.machine.proofs.Stage.Select.{chosen-any, was-chosen}
 use Rattle.machine.proofs.Network.Told.{arrival, Good, good, weigh-messages}
 use Rattle.machine.proofs.Network.Trace.{ch, st, sending-is}
 
@@ -50,21 +50,22 @@ module _ (net : Network) (v i : ℕ) where
       (λ j. let b = was-brought ms x j in record { message = b .message; there = List·Memᴰ·tail (b .there); passes = b .passes; is = b .is })
       (List·Memᴰ·append-cases (cond (test m) (packetsIn net m) []) k)
 
-  pub is-brought : (ms : List Message) (m : Message) (x : Packet) → List·Memᴰ m ms → T (test m) → List·Memᴰ x (packetsIn net m) → List·Memᴰ x (toLane net v i ms)
-  is-brought (n ∷ ms) m x (List·Memᴰ·head e) h k = Memᴰ·append-left (toLane net v i ms)
-      (by-test (test n) (λ (l : List Packet). List·Memᴰ x l) (λ g. subst (λ (a : Message). List·Memᴰ x (packetsIn net a)) e k) (λ g. absurd (g (subst (λ (a : Message). T (test a)) e h))))
+  pub is-brought : (ms : List Message) (m : Message) (x : Packet) → List·Memᴰ m ms → T (test m) → List·Memᴰ x (packetsIn net m)
+      → List·Memᴰ x (toLane net v i ms)
+  is-brought (n ∷ ms) m x (List·Memᴰ·head e) h k =
+      let there : List·Memᴰ x (cond (test n) (packetsIn net n) []) = rw (← e, is-true (test m) h) k in
+      Memᴰ·append-left (toLane net v i ms) there
   is-brought (n ∷ ms) m x (List·Memᴰ·tail j) h k = Memᴰ·append-right (cond (test n) (packetsIn net n) []) (is-brought ms m x j h k)
 
   -- the cost of a message to the virtual server that spends c on each packet
   pub lane-weight : (c : ℕ) (ms : List Message) → length (toLane net v i ms) * c ≡ weigh (λ m. length (packetsIn net m) * c) (chosen test (λ m. m) ms)
   unfolding total
   lane-weight c [] = omega arith
-  lane-weight c (m ∷ ms) = go (lane-weight c ms) (test m)
-    where
-      go : length (toLane net v i ms) * c ≡ weigh (λ n. length (packetsIn net n) * c) (chosen test (λ n. n) ms) → (b : Bool)
-          → length (cond b (packetsIn net m) [] ++ toLane net v i ms) * c ≡ weigh (λ n. length (packetsIn net n) * c) (cond b (m ∷ []) [] ++ chosen test (λ n. n) ms)
-      go e true = omega (arith, ap (λ (n : ℕ). n * c) (length-append (packetsIn net m) (toLane net v i ms)))
-      go e false = e
+  lane-weight c (m ∷ ms) =
+      let w : Message → ℕ = λ n. length (packetsIn net n) * c in
+      let e = lane-weight c ms in
+      elim (test m) as (λ b. length (cond b (packetsIn net m) [] ++ toLane net v i ms) * c ≡ weigh w (cond b (m ∷ []) [] ++ chosen test (λ n. n) ms))
+      [ true ↦ omega (arith, ap (λ (n : ℕ). n * c) (length-append (packetsIn net m) (toLane net v i ms))) | false ↦ e ]
 
 -- the cost of a stream's flow, as packets times what the virtual server spends on each
 pub flow-cost : (net : Network) (s : ℕ)
@@ -87,21 +88,21 @@ module _ (net : Network) (sound : Sound net) (r : Run) (per : Permitted net r) w
 
   pub reach-at : (t : ℕ) (m : Message) → List·Memᴰ m (ch net r t .reach) → (arrival r m ≡ t) × Good net r (m .released) m
   reach-at t m k =
-      let f = landed-from (λ u. ch net r u .send) (released r) t m (subst (λ (l : List Message). List·Memᴰ m l) (reach-landed t) (perm-mem (Permᴰ·symm (per (suc t) .reach t (le-refl (suc t)))) k)) in
+      let l = perm-mem (Permᴰ·symm (per (suc t) .reach t (le-refl (suc t)))) k in
+      let f = landed-from (λ u. ch net r u .send) (released r) t m (subst (List·Memᴰ m) (reach-landed t) l) in
       let g = good net r per (f .0) m (f .1) in
       (omega (arith, g .released, f .2, ap (λ (u : ℕ). ch net r u .send m) (g .released)), subst (λ (u : ℕ). Good net r u m) (sym (g .released)) g)
 
   -- a stream's messages at the queues: the jitter is raised by the spread of the send delay
-  pub stream-rate : (s : ℕ) → s < length (net .streams) → (x d : ℕ) → span (λ t. count (λ m. eqb (m .stream) s) (ch net r t .reach)) x d ≤ most (queueFlow net s) d
+  pub stream-rate : (s : ℕ) → s < length (net .streams) → (x d : ℕ)
+      → span (λ t. count (λ m. eqb (m .stream) s) (ch net r t .reach)) x d ≤ most (queueFlow net s) d
   unfolding most queueFlow
   stream-rate s h x d =
       let p : Message → Bool = λ m. eqb (m .stream) s in
-      let f : Flow = streamFlow net s in
-      let e = envelope (λ t. chosen p (λ m. m) (released r t)) (λ t. chosen p (λ m. m) (ch net r t .reach)) (net .sendLeast) (net .sendGreatest)
-      (delay-chosen p (λ m. m) reach-delay) (λ m. m .released)
-      (λ t m k. let o = was-chosen p (λ n. n) (released r t) m k in
-      ap (λ (n : Message). n .released) (sym (o .is)) ∙ good net r per t (o .from) (o .there) .released)
-      f (sound .period s h)
-      (λ y c. le-trans (le-of-eq (span-same (λ t. count any (chosen p (λ m. m) (released r t))) (λ t. count p (released r t)) (λ t. chosen-any p (λ m. m) (released r t)) y c)) (le-trans (le-of-eq (span-same (λ t. count p (released r t)) (releasedBy (r .releases) s) (λ t. weigh-messages (λ m. tally (p m)) (λ z. tally (eqb (z .stream) s)) (λ u i z. refl) t 0 (r .releases t)) y c)) (per (suc (y + c)) .rule s h y c (le-refl (suc (y + c))))))
-      x d in
-      le-trans (le-of-eq (span-same (λ t. count p (ch net r t .reach)) (λ t. count any (chosen p (λ m. m) (ch net r t .reach))) (λ t. sym (chosen-any p (λ m. m) (ch net r t .reach))) x d)) e
+      let by-release : (t : ℕ) → count p (released r t) ≡ releasedBy (r .releases) s t =
+      λ t. weigh-messages (λ m. tally (p m)) (λ z. tally (eqb (z .stream) s)) (λ u i z. refl) t 0 (r .releases t) in
+      simp (chosen-any p (λ m. m)) at (envelope (λ t. chosen p (λ m. m) (released r t)) (λ t. chosen p (λ m. m) (ch net r t .reach))
+      (net .sendLeast) (net .sendGreatest) (delay-chosen p (λ m. m) reach-delay) (λ m. m .released)
+      (λ t m k. let o = was-chosen p (λ n. n) (released r t) m k in rw (← o .is) (good net r per t (o .from) (o .there) .released))
+      (streamFlow net s) (sound .period s h)
+      (λ y c. simp (chosen-any p (λ m. m), by-release) (per (suc (y + c)) .rule s h y c (le-refl (suc (y + c))))) x d)

@@ -3,7 +3,7 @@
 use Prim.Native.Nat.{ℕ, _+_, _*_, _≤_, _<_}
 use mathlib.Core.Bool.{_&&_}
 use mathlib.Core.List.{List, [], _∷_, map, List·Memᴰ, List·Memᴰ·head, List·Memᴰ·tail}
-use mathlib.Core.Path.{_≡_, refl, sym, subst}
+use mathlib.Core.Path.{_≡_, refl}
 use native.Mathlib.Nat.{mul-le-mul-right}
 use native.Mathlib.Omega.{arith}
 use lib.Dec.{eqb, eqb→eq}
@@ -37,19 +37,21 @@ cost-covered f s q ns m h =
     let one : 1 * f s .cost ≤ most (f s) 0 * f s .cost = mul-le-mul-right (f s .cost) (omega arith) in
     omega (arith, brought-is f 0 ns, weigh-part (λ z. most (f z) 0 * f z .cost) s ns m)
 
--- where there is a busy length, the figure of that length covers every span
-station-covers : (lim : ℕ) (fs : List Flow) → Periodic fs → Has (busyLengthTo lim fs) → (d : ℕ) → brought fs d ≤ figure fs (numberOr0 (busyLengthTo lim fs)) + d
-station-covers lim fs p has d =
-    subst (λ (l : ℕ). brought fs d ≤ figure fs l + d) (sym (number-is (busyLengthTo lim fs) (has .length) (has .is))) (covers-every-span-to lim fs (has .length) p (has .is) d)
-
-none-brought : (f : ℕ → Flow) (q d : ℕ) → brought (map f []) d ≤ q + d
-unfolding brought
-none-brought f q d = omega arith
-
 periodic-map : (f : ℕ → Flow) (l : List ℕ) → ((s : ℕ) → List·Memᴰ s l → 0 < f s .period) → Periodic (map f l)
 unfolding Periodic
 periodic-map f [] h = tt
 periodic-map f (s ∷ l) h = (h s (List·Memᴰ·head refl), periodic-map f l (λ n k. h n (List·Memᴰ·tail k)))
+
+-- where there is no flow nothing comes; where there is one the busy length exists, and the figure of that length covers every span
+station-covers : (lim : ℕ) (f : ℕ → Flow) (ns : List ℕ) → ((s : ℕ) → List·Memᴰ s ns → (0 < f s .period) × Has (busyLengthTo lim (map f ns))) → (d : ℕ)
+    → brought (map f ns) d ≤ figure (map f ns) (numberOr0 (busyLengthTo lim (map f ns))) + d
+unfolding brought
+station-covers lim f [] h d = omega arith
+station-covers lim f (s ∷ ns) h d =
+    let all = map f (s ∷ ns) in
+    let has = h s (List·Memᴰ·head refl) .1 in
+    rw (number-is (busyLengthTo lim all) (has .length) (has .is))
+    (covers-every-span-to lim all (has .length) (periodic-map f (s ∷ ns) (λ i m. h i m .0)) (has .is) d)
 
 module _ (net : Network) (sound : Sound net) (busy : Busy net) where
   -- ---- queues
@@ -61,40 +63,17 @@ module _ (net : Network) (sound : Sound net) (busy : Busy net) where
       let w = was-passing (λ s. eqb (streamAt net s .vl) v && eqb (streamAt net s .sublink) k) (length (net .streams)) s m in
       (w .0, eqb→eq (streamAt net s .vl) v (left a b (w .1)), eqb→eq (streamAt net s .sublink) k (right a b (w .1)))
 
-  queue-periodic : (v k : ℕ) → Periodic (queueFlows net v k)
-  unfolding queueFlows queueFlow
-  queue-periodic v k = periodic-map (queueFlow net) (streamsOn net v k) (λ s m. sound .period s (on-sub-link v k s m .0))
-
   pub queue-covers : (v k d : ℕ) → brought (queueFlows net v k) d ≤ queueStation net v k + d
-  unfolding queueFlows queueStation queueLength
-  queue-covers v k d = go (streamsOn net v k) refl
-    where
-      go : (l : List ℕ) → streamsOn net v k ≡ l
-          → brought (map (queueFlow net) (streamsOn net v k)) d ≤ figure (map (queueFlow net) (streamsOn net v k)) (numberOr0 (busyLengthTo (net .tick .longest) (map (queueFlow net) (streamsOn net v k)))) + d
-      go [] e = subst (λ (l : List ℕ). brought (map (queueFlow net) l) d ≤ figure (map (queueFlow net) l) (numberOr0 (busyLengthTo (net .tick .longest) (map (queueFlow net) l))) + d) (sym e)
-          (none-brought (queueFlow net) (figure [] (numberOr0 (busyLengthTo (net .tick .longest) []))) d)
-      go (s ∷ l) e =
-          let on = on-sub-link v k s (subst (λ (z : List ℕ). List·Memᴰ s z) (sym e) (List·Memᴰ·head refl)) in
-          let has : Has (queueLength net v k) = subst (λ (z : ℕ). Has (queueLength net v z)) (on .2) (subst (λ (z : ℕ). Has (queueLength net z (streamAt net s .sublink))) (on .1) (busy .queue s (on .0))) in
-          station-covers (net .tick .longest) (queueFlows net v k) (queue-periodic v k) has d
+  unfolding queueFlows queueFlow queueStation queueLength
+  queue-covers v k = station-covers (net .tick .longest) (queueFlow net) (streamsOn net v k)
+      (λ s m. let on = on-sub-link v k s m in (sound .period s (on .0), rw (on .1, on .2) at (busy .queue s (on .0))))
 
   -- ---- ports
-  port-periodic : (p : ℕ) → Periodic (portFlows net (jitterOf net) p)
-  unfolding portFlows hopFlow
-  port-periodic p = periodic-map (hopFlow net (jitterOf net)) (hopsOn net p)
-      (λ h m. sound .gap (hopAt net h .vl) (sound .references .hop-vl h (on-port net p h m .0)))
-
   pub port-covers : (p d : ℕ) → brought (portFlows net (jitterOf net) p) d ≤ portFigure net (jitterOf net) p + d
-  unfolding portFlows portFigure portLength
-  port-covers p d = go (hopsOn net p) refl
-    where
-      go : (l : List ℕ) → hopsOn net p ≡ l → brought (map (hopFlow net (jitterOf net)) (hopsOn net p)) d ≤ figure (map (hopFlow net (jitterOf net)) (hopsOn net p)) (numberOr0 (busyLengthTo (net .tick .longest) (map (hopFlow net (jitterOf net)) (hopsOn net p)))) + d
-      go [] e = subst (λ (l : List ℕ). brought (map (hopFlow net (jitterOf net)) l) d ≤ figure (map (hopFlow net (jitterOf net)) l) (numberOr0 (busyLengthTo (net .tick .longest) (map (hopFlow net (jitterOf net)) l))) + d) (sym e)
-          (none-brought (hopFlow net (jitterOf net)) (figure [] (numberOr0 (busyLengthTo (net .tick .longest) []))) d)
-      go (h ∷ l) e =
-          let on = on-port net p h (subst (λ (z : List ℕ). List·Memᴰ h z) (sym e) (List·Memᴰ·head refl)) in
-          let has : Has (portLength net (jitterOf net) p) = subst (λ (z : ℕ). Has (portLength net (jitterOf net) z)) (on .1) (busy .port h (on .0)) in
-          station-covers (net .tick .longest) (portFlows net (jitterOf net) p) (port-periodic p) has d
+  unfolding portFlows hopFlow portFigure portLength
+  port-covers p = station-covers (net .tick .longest) (hopFlow net (jitterOf net)) (hopsOn net p)
+      (λ h m. let on = on-port net p h m in
+      (sound .gap (hopAt net h .vl) (sound .references .hop-vl h (on .0)), rw (on .1) at (busy .port h (on .0))))
 
   -- a hop's figure is at least a least frame of it
   pub figure-least : (h : ℕ) → h < length (net .hops) → hopLine net h ≤ figureOf net h

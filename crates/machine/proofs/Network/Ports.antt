@@ -1,11 +1,11 @@
 -- From the hand-over of a frame to its arrival at each port, and on to its destinations. By induction on the port number: what reaches a port comes from the end system or from a lower port.
 -- Assumes nothing.
-use Prim.Native.Nat.{ℕ, zero, suc, _+_, _-_, _/_, _≤_, _<_}
+use Prim.Native.Nat.{ℕ, zero, suc, _+_, _-_, _≤_, _<_}
 use mathlib.Core.Bool.{Bool, true, cond}
 use mathlib.Core.List.{List, [], List·Memᴰ, Permᴰ·symm}
 use mathlib.Core.Option.{Option, none, some}
 use mathlib.Core.Path.{_≡_, refl, sym, ap, _∙_, subst}
-use native.Mathlib.Nat.{le-refl, le-of-eq, le-trans, add-zero}
+use native.Mathlib.Nat.{le-refl, le-of-eq, add-zero}
 use native.Mathlib.Omega.{arith}
 use lib.Dec.{eqb, eqb-refl}
 use lib.ListN.{length}
@@ -18,7 +18,7 @@ use Rattle.network.proofs.PortLaws.{on-port}
 use Rattle.rows.specs.Links.{hopMost, hopLine}
 use Rattle.rows.specs.Ports.{hopFlow, portFlows, portFigure, jitterOf, figureOf}
 use Rattle.rows.proofs.PortLaws.{figure-of-port}
-use Rattle.station.specs.Station.{most, brought}
+use Rattle.station.specs.Station.{Flow, most, brought}
 use Rattle.machine.specs.Sum.{span, count, weigh}
 use Rattle.machine.specs.Lists.{chosen}
 use Rattle.machine.specs.Messages.{Copy, copy, portCost}
@@ -26,13 +26,12 @@ use Rattle.machine.specs.Machine.{Run, setsFrom, portArrived}
 use Rattle.machine.specs.Permitted.{Permitted}
 use Rattle.machine.specs.Sound.{Sound}
 use Rattle.machine.proofs.Stage.Parts.{fifo-out}
-use Rattle.machine.proofs.Lists.Sums.{span-same}
 use Rattle.machine.proofs.Stage.LinkLaws.{free}
 use Rattle.machine.proofs.Stage.FifoLaws.{fifo-delay, work-within}
 use Rattle.machine.proofs.Stage.Flows.{Covered, works-bound}
 use Rattle.machine.proofs.Stage.Delay.{Delay, _then_, reordered, on-the-way, delay-chosen, delay-same, looser}
 use Rattle.machine.proofs.Stage.Envelope.{envelope}
-use Rattle.machine.proofs.Stage.Select.{was-chosen, is-chosen, chosen-any, hops-at, any}
+use Rattle.machine.proofs.Stage.Select.{was-chosen, is-chosen, chosen-any, hops-at}
 use Rattle.machine.proofs.Lists.Orders.{perm-mem, was-gathered}
 use Rattle.machine.proofs.Network.Trace.{ch, st, port-is, hand, source, lands-at, lands-is, into, left, left-is, done, done-is}
 use Rattle.machine.proofs.Network.Windows.{Windows, soon-by, late-by}
@@ -105,25 +104,17 @@ module _ (net : Network) (sound : Sound net) (r : Run) (per : Permitted net r) (
         let lmax = vlAt net (hopAt net (c .hop) .vl) .lmax in
         (k .listed, rw (k .here) (ticks-most (portLink net p) (c .frame .packet .bytes) lmax (k .bytes-most)))
 
-    jitter : (h : ℕ) → h < length (net .hops) → 0 + (win .late h - win .soon h) ≡ jitterOf net h
-    jitter h hh = omega (arith, win .spread h hh)
-
-    hop-rate : (h : ℕ) → h < length (net .hops) → port-of h ≡ p → (x d : ℕ) → span (λ t. count (λ c. eqb (c .hop) h) (ins t)) x d ≤ most (hopFlow net (jitterOf net) h) d
+    hop-rate : (h : ℕ) → h < length (net .hops) → port-of h ≡ p → (x d : ℕ)
+        → span (λ t. count (λ c. eqb (c .hop) h) (ins t)) x d ≤ most (hopFlow net (jitterOf net) h) d
     unfolding most hopFlow
     hop-rate h hh e x d =
         let v = hopAt net h .vl in
         let hv = sound .references .hop-vl h hh in
-        let q = envelope (hand net r v) (into net r h) (win .soon h) (win .late h) (arrive h hh e) (λ f. f .born) (λ t f m. hand-fact net sound r per v win hv t f m .0)
-        (record { period = vlAt net v .gap; jitter = 0; cost = 0 }) (omega (arith, sound .gap v hv))
-        (λ y c. le-trans (hand-rate net sound r per v win hv y c) (le-of-eq (ap (λ (n : ℕ). n / vlAt net v .gap + 1) (sym (add-zero c))))) x d in
-        let same : (t : ℕ) → count (λ c. eqb (c .hop) h) (ins t) ≡ count any (into net r h t) =
-        λ t. ap (λ (n : ℕ). count (λ c. eqb (c .hop) h) (ch net r t .enter n)) (sym e) ∙ sym (chosen-any (λ c. eqb (c .hop) h) (λ c. c .frame) (ch net r t .enter (port-of h))) in
-        omega (
-          arith,
-          span-same (λ t. count (λ c. eqb (c .hop) h) (ins t)) (λ t. count any (into net r h t)) same x d,
-          q,
-          ap (λ (n : ℕ). (d + n) / vlAt net v .gap) (jitter h hh),
-        )
+        let gap : Flow = record { period = vlAt net v .gap; jitter = 0; cost = 0 } in
+        let wide : 0 + (win .late h - win .soon h) ≡ jitterOf net h = omega (arith, win .spread h hh) in
+        let q = envelope (hand net r v) (into net r h) (win .soon h) (win .late h) (arrive h hh e) (λ f. f .born)
+        (λ t f m. hand-fact net sound r per v win hv t f m .0) gap (sound .gap v hv) (λ y c. rw (add-zero c) (hand-rate net sound r per v win hv y c)) x d in
+        rw (e, wide) at (simp (chosen-any (λ (c : Copy). eqb (c .hop) h) (λ c. c .frame)) at q)
 
     bound : (x d : ℕ) → span (λ t. weigh (portCost net p) (ins t)) x d ≤ brought (portFlows net (jitterOf net) p) d
     unfolding portFlows

@@ -1,11 +1,11 @@
 -- From a sub-link queue to the hand-over: each packet is handed over within the station's figure less one gap, and no sooner than its place in its message allows.
 -- Assumes nothing.
-use Prim.Native.Nat.{ℕ, zero, suc, _+_, _*_, _/_, _≤_, _<_}
+use Prim.Native.Nat.{ℕ, suc, _+_, _*_, _/_, _≤_, _<_}
 use mathlib.Core.Bool.{Bool, true, cond, _&&_}
 use mathlib.Core.List.{List, [], _∷_, List·Memᴰ, List·Memᴰ·head, List·Memᴰ·tail, List·Memᴰ·not-nil, List·Memᴰ·eq-of-singleton}
 use mathlib.Core.Option.{Option, none, some}
 use mathlib.Core.Path.{_≡_, refl, sym, ap, _∙_, subst}
-use native.Mathlib.Nat.{le-refl, le-of-eq, le-trans, mul-le-mul-right}
+use native.Mathlib.Nat.{le-of-eq, le-trans, mul-le-mul-right}
 use native.Mathlib.Omega.{arith}
 use lib.Dec.{eqb, T, eqb→eq}
 use lib.ListN.{length}
@@ -29,7 +29,7 @@ use Rattle.machine.specs.Sound.{Sound}
 use Rattle.machine.proofs.Lists.Cases.{eq→eqb, by-test, both}
 use Rattle.machine.proofs.Stage.Parts.{handed, queue}
 use Rattle.machine.proofs.Lists.Sums.{span-mono, span-same}
-use Rattle.machine.proofs.Stage.Lindley.{finish, finish-next, finish-bound}
+use Rattle.machine.proofs.Stage.Lindley.{finish, finish-bound}
 use Rattle.machine.proofs.Stage.Flows.{Covered, works-bound}
 use Rattle.machine.proofs.Lists.Turns.{Empty}
 use Rattle.machine.proofs.Lists.Lanes.{names, flat}
@@ -95,7 +95,7 @@ module _ (net : Network) (sound : Sound net) (r : Run) (per : Permitted net r) w
         (le-of-eq (span-same load (λ t. weigh cost (msgs t)) (λ t. lane-weight net v i nb (ch net r t .reach)) x d))
         (works-bound cost (λ m. m .stream) (queueFlow net) ns msgs covered kept x d)
 
-    -- the virtual server is done within the winure
+    -- the virtual server is done within the figure
     pub lane-finish : (win : Windows net) (t : ℕ) → finish load t ≤ t + queueStation net v i
     lane-finish win = finish-bound load (brought (queueFlows net v i)) (queueStation net v i) load-bound (win .queue-covers v i)
 
@@ -179,21 +179,8 @@ module _ (net : Network) (sound : Sound net) (r : Run) (per : Permitted net r) w
           (λ g. low-number m 0 (packetLines (m .size) (vlAt net (vlOf net m) .lmax)) u (omega (arith, h m (List·Memᴰ·head refl)))) (λ g. tt))
           (low-lane i ms u (λ k j. h k (List·Memᴰ·tail j)))
 
-      abbrev fin : ℕ → ℕ → ℕ
-      fin i t = finish (λ u. length (news net r v u i) * (n * gap)) t
-
       pos : 0 < gap
-      pos = omega (arith, sound .gap v hv)
-
-      fin-first : (i : ℕ) → length (news net r v zero i) * (n * gap) ≤ fin i zero
-      unfolding finish
-      fin-first i = le-refl (length (news net r v zero i) * (n * gap))
-
-      fin-next : (i t : ℕ) → fin i t + length (news net r v (suc t) i) * (n * gap) ≤ fin i (suc t)
-      fin-next i t = omega (arith, finish-next (λ u. length (news net r v u i) * (n * gap)) t)
-
-      fin-fresh : (i t : ℕ) → suc t + length (news net r v (suc t) i) * (n * gap) ≤ fin i (suc t)
-      fin-fresh i t = omega (arith, finish-next (λ u. length (news net r v u i) * (n * gap)) t)
+      pos = sound .gap v hv
 
       brought-soon : (t i : ℕ) (x : Packet) → List·Memᴰ x (news net r v t i) → t + queueStation net v i ≤ by x
       brought-soon t i x k = let b = brought-facts t i x k in omega (arith, b .1, ap (queueStation net v) (b .2))
@@ -202,16 +189,16 @@ module _ (net : Network) (sound : Sound net) (r : Run) (per : Permitted net r) w
       brought-low t i = low-lane i (ch net r t .reach) t (λ m k. le-of-eq (reach-at net sound r per t m k .0))
 
       pub bounds : (t : ℕ) (x : Packet) → handed gap s₀ (news net r v) t ≡ some x → (t + gap ≤ by x) × (from x ≤ t)
-      bounds = hand-bounds n gap by from fin (queueStation net v) (news net r v) fin-first fin-next fin-fresh
+      bounds = hand-bounds n gap by from (queueStation net v) (news net r v)
           (λ i t. lane-finish v i hv win t) brought-soon brought-low pos s₀ size₀ empty₀ refl
 
       goes : (i : ℕ) → i < n → (t : ℕ) (x : Packet) → List·Memᴰ x (news net r v t i) → (u : ℕ) × (handed gap s₀ (news net r v) u ≡ some x)
-      goes i h t x k = forward n gap by from fin (queueStation net v) (news net r v) fin-first fin-next fin-fresh
+      goes i h t x k = forward n gap by from (queueStation net v) (news net r v)
           (λ i t. lane-finish v i hv win t) brought-soon brought-low pos s₀ size₀ empty₀ refl i (named₀ i h) t x k
 
       -- no packet stays past its time
       pub left-due : (t : ℕ) (x : Packet) → List·Memᴰ x (flat (queue gap s₀ (news net r v) (suc t) .lanes)) → t + gap ≤ by x
-      left-due = still-due n gap by from fin (queueStation net v) (news net r v) fin-first fin-next fin-fresh
+      left-due = still-due n gap by from (queueStation net v) (news net r v)
           (λ i t. lane-finish v i hv win t) brought-soon brought-low pos s₀ size₀ empty₀ refl
 
       pub record Fact (f : Frame) : Type 0 where
@@ -247,14 +234,14 @@ module _ (net : Network) (sound : Sound net) (r : Run) (per : Permitted net r) w
 
       pub hand-rate : (x d : ℕ) → span (λ t. count any (hand net r v t)) x d ≤ d / gap + 1
       unfolding total
-      hand-rate x d = le-trans (le-of-eq (span-same (λ t. count any (hand net r v t)) (λ t. tally-of (handed gap s₀ (news net r v) t)) same x d)) (hand-count gap s₀ (news net r v) refl pos x d)
+      hand-rate x d = simp (same) (hand-count gap s₀ (news net r v) refl pos x d)
         where
           one : (t : ℕ) (o : Option Packet) → count any (framed v t o) ≡ tally-of o
           one t none = refl
           one t (some y) = refl
 
           same : (t : ℕ) → count any (hand net r v t) ≡ tally-of (handed gap s₀ (news net r v) t)
-          same t = ap (count any) (hand-is net r v t) ∙ one t (handed gap s₀ (news net r v) t)
+          same t = rw (hand-is net r v t) (one t (handed gap s₀ (news net r v) t))
 
       -- each packet of each message is handed over
       pub record Over (m : Message) (k a : ℕ) : Type 0 where

@@ -14,6 +14,7 @@ use Rattle.machine.specs.Queue.{Queue, Handed}
 use Rattle.machine.proofs.Stage.Parts.{queue-tick, queue, handed}
 use Rattle.machine.proofs.Lists.Turns.{Empty, Each, each-append, each-right, each-map, each-empty, each-add, length-add}
 use Rattle.machine.proofs.Lists.Lanes.{listed, flat, names, brought, is-brought}
+use Rattle.machine.proofs.Stage.Lindley.{finish, finish-next}
 use Rattle.machine.proofs.Stage.Moves.{leaves}
 use Rattle.machine.proofs.Stage.QueueSteps.{Gave, Kept, cases, is-listed, lanes, stay, moves, none-first}
 
@@ -87,18 +88,21 @@ module _ {X : Type 0} (n gap : ℕ) (by from : X → ℕ) where
         g .low .0,
       )
 
-  -- `v i t` is the tick at which the virtual server of lane i is done with all that came by tick t
-  module _ (v : ℕ → ℕ → ℕ) (f : ℕ → ℕ) (new : ℕ → ℕ → List X)
-      (v-first : (i : ℕ) → length (new zero i) * nb ≤ v i zero)
-      (v-next : (i t : ℕ) → v i t + length (new (suc t) i) * nb ≤ v i (suc t))
-      (v-fresh : (i t : ℕ) → suc t + length (new (suc t) i) * nb ≤ v i (suc t))
-      (v-bound : (i t : ℕ) → v i t ≤ t + f i)
+  module _ (f : ℕ → ℕ) (new : ℕ → ℕ → List X)
+      (v-bound : (i t : ℕ) → finish (λ u. length (new u i) * nb) t ≤ t + f i)
       (soon : (t i : ℕ) (x : X) → List·Memᴰ x (new t i) → t + f i ≤ by x)
       (late : (t i : ℕ) → Low t (new t i))
     where
+      -- the tick at which the virtual server of lane i is done with all that came by tick t
+      abbrev v : ℕ → ℕ → ℕ
+      v i t = finish (λ u. length (new u i) * nb) t
+
+      v-next : (i t : ℕ) → (v i t + length (new (suc t) i) * nb ≤ v i (suc t)) × (suc t + length (new (suc t) i) * nb ≤ v i (suc t))
+      v-next i t = omega (arith, finish-next (λ u. length (new u i) * nb) t)
+
       v-low : (i t : ℕ) → t ≤ v i t
       v-low i zero = omega arith
-      v-low i (suc t) = omega (arith, v-fresh i t)
+      v-low i (suc t) = omega (arith, v-next i t .1)
 
       R : ℕ → ℕ → Lane X → ℕ → Type 0
       R t m l e = Good m (v (l .name) t) (e * gap) (l .line)
@@ -126,10 +130,10 @@ module _ {X : Type 0} (n gap : ℕ) (by from : X → ℕ) where
       mid-next : (t : ℕ) (s : Queue X) → Ok t s → Mid (suc t) s
       unfolding Mid R
       mid-next t s o = dite (decLe (s .next) t)
-          (λ k. mid-idle (suc t) s (λ i. v-fresh i t) (omega arith) (o .idle k))
+          (λ k. mid-idle (suc t) s (λ i. v-next i t .1) (omega arith) (o .idle k))
           (λ k. each-add (R t (max (s .next) t)) (R (suc t) (max (s .next) (suc t))) (new (suc t)) 0
           (λ l e g. good-new (suc t) (f (l .name)) (max (s .next) (suc t)) (v (l .name) t) (v (l .name) (suc t)) (e * gap) (l .line) (new (suc t) (l .name))
-          (omega arith) (v-next (l .name) t) (v-bound (l .name) (suc t)) (soon (suc t) (l .name)) (late (suc t) (l .name))
+          (omega arith) (v-next (l .name) t .0) (v-bound (l .name) (suc t)) (soon (suc t) (l .name)) (late (suc t) (l .name))
           (good-shift (max (s .next) t) (v (l .name) t) (e * gap) (max (s .next) (suc t)) (e * gap) (l .line) (omega arith) (omega arith) g))
           (s .lanes) (o .good))
 
@@ -194,8 +198,8 @@ module _ {X : Type 0} (n gap : ℕ) (by from : X → ℕ) where
         after t s z m = ⊎-elim (λ g. gave t s z m (queue-tick gap t (new t) s) g pos) (λ k. kept t s z m (queue-tick gap t (new t) s) k) (cases gap t (new t) s)
 
         run : (t : ℕ) → After t (queue-tick gap t (new t) (queue gap s₀ new t))
-        unfolding queue
-        run zero = after zero s₀ size₀ (mid-idle zero s₀ (λ i. omega (arith, v-first i)) (omega arith) empty₀)
+        unfolding queue finish
+        run zero = after zero s₀ size₀ (mid-idle zero s₀ (λ i. omega arith) (omega arith) empty₀)
         run (suc t) = let o = run t .ok in after (suc t) (queue gap s₀ new (suc t)) (o .size) (mid-next t (queue gap s₀ new (suc t)) o)
 
         fair-at : (t : ℕ) (x : X) (o : Option X) → o ≡ some x → Fair t o → (t + gap ≤ by x) × (from x ≤ t)
