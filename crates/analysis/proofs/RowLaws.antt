@@ -7,18 +7,14 @@ use mathlib.Core.Path.{_≡_, sym, ap, _∙_}
 use native.Mathlib.Omega.{arith}
 use lib.ListN.{length}
 use Rattle.frame.specs.Packets.{packets}
-use Rattle.frame.proofs.FrameLaws.{least-line-is}
-use Rattle.network.specs.declared.EndSystem.{EndSystem}
-use Rattle.network.specs.declared.Vl.{Vl}
-use Rattle.network.specs.Network.{Network, systemAt, vlAt, streamAt, hopAt}
+use Rattle.network.specs.Network.{Network, vlAt, streamAt, hopAt}
 use Rattle.network.specs.Views.{leaf, leavesOf}
-use Rattle.rows.specs.Links.{sendLine, muxWait}
+use Rattle.rows.specs.Links.{muxWait}
 use Rattle.rows.specs.Rows.{queueOf, worst, best, rowJitter, rowOf, rowsTo, rowsOf}
 use Rattle.rows.proofs.RowLaws.{worst-sum, best-sum}
 use Rattle.sheet.specs.declared.Delays.{Delays}
 use Rattle.sheet.specs.Sheet.{delaysIn}
 use Rattle.figures.proofs.CountLaws.{isDestination, leavesTo, leaves-of-all, leaves-to-hit, leaves-to-other, leaves-to-inner, rowsWith, length-rows-with, rows-more, length-rows-more}
-use Rattle.figures.proofs.LinkLaws.{send-least-is}
 use Rattle.figures.proofs.SumLaws.{passing-grows}
 use Rattle.analysis.specs.declared.results.Ticks.{Ticks}
 use Rattle.analysis.specs.Placing.{RouteTicks, FrameTicks, gapsOf}
@@ -29,9 +25,6 @@ module _ (net : Network) where
       → gap ≡ vlAt net v .gap → (p - 1) * gap ≡ gapsOf net s
   unfolding gapsOf
   gaps-read s v p size lmax gap e f g i j = rw (f, g, i, j, e)
-
-  pub send-read : (v : ℕ) (vl : Vl) (system : EndSystem) → vl ≡ vlAt net v → system ≡ systemAt net (vl .system) → 84 * system .perbyte ≡ sendLine net v
-  send-read v vl system is on = rw (on, is, send-least-is net v, least-line-is)
 
   pub worst-read : (s h v queue wait : ℕ) (d : Delays) (frame route : Ticks) → d ≡ delaysIn net → v ≡ streamAt net s .vl → queue ≡ queueOf net s
       → wait ≡ muxWait net v → FrameTicks net v frame → RouteTicks net h route

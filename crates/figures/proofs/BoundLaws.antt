@@ -1,6 +1,6 @@
 -- What the ranges and references of a table bound: queue and port figures, jitters of hops, and so that the station takes the flows of every queue and port.
 -- Assumes nothing.
-use Prim.Native.Nat.{ℕ, zero, suc, _+_, _-_, _*_, _≤_, _<_}
+use Prim.Native.Nat.{ℕ, zero, suc, _+_, _*_, _≤_, _<_}
 use mathlib.Core.Bool.{true, false, true≢false, _&&_}
 use mathlib.Core.List.{List, map, List·Memᴰ}
 use mathlib.Core.Logic.{⊎-elim}
@@ -10,7 +10,7 @@ use native.Mathlib.Nat.{le-trans, mul-le-mul}
 use native.Mathlib.Omega.{arith}
 use borrow.Author.Tests.{le-leb}
 use lib.Dec.{leb, eqb}
-use lib.ListN.{length, length-map}
+use lib.ListN.{length, getD, length-map}
 use Rattle.base.specs.Tests.{numberOr0}
 use Rattle.base.proofs.LeastLaws.{greatest-le}
 use Rattle.base.proofs.TabulateLaws.{passing-member, length-passing}
@@ -18,7 +18,10 @@ use Rattle.base.proofs.TestLaws.{number-is, number-of-none}
 use Rattle.frame.specs.Frame.{leastLine, largestLine}
 use Rattle.frame.specs.Tick.{TickRules}
 use Rattle.frame.proofs.TickLaws.{longest-is}
-use Rattle.frame.proofs.FrameLaws.{least-line-is, largest-line-bounds}
+use Rattle.frame.proofs.FrameLaws.{largest-line-bounds}
+use Rattle.layout.specs.Limits.{limits}
+use Rattle.network.specs.Link.{systemLink, portLink}
+use Rattle.network.proofs.LinkLaws.{most-some, most-bound}
 use Rattle.network.specs.Network.{Network, vlAt, systemAt, streamAt, portAt, hopAt, parentAt}
 use Rattle.network.specs.ReferenceFacts.{References}
 use Rattle.network.specs.Views.{hopsOn, streamsOn}
@@ -31,13 +34,16 @@ use Rattle.station.specs.Offered.{mostFlows, allInRange, offered}
 use Rattle.station.specs.Facts.{Periodic}
 use Rattle.station.proofs.FlowLaws.{InRange, and-true, periodic}
 use Rattle.station.proofs.Facts.{figure-within-length-to, busy-length-to}
-use Rattle.rows.specs.Links.{sendMost, sendSpread, muxWait, hopMost, hopSpread}
+use Rattle.rows.specs.Links.{sendMost, sendLine, sendSpread, muxWait, hopMost, hopSpread}
 use Rattle.rows.specs.Queues.{queueFlow, queueFlows, queueLength, queueFigure}
 use Rattle.rows.specs.Ports.{hopFlow, portFlows, portLength, portFigure, jitterOf, figureOf}
 use Rattle.rows.proofs.PortLaws.{figure-of-port, figures-of}
+use Rattle.table.specs.Sections.{lent}
+use Rattle.figures.specs.Figures.{waitsOf}
 use Rattle.figures.specs.Computing.{sumWithout}
+use Rattle.figures.proofs.FillLaws.{noted-at}
 use Rattle.figures.proofs.SumLaws.{passing-most, map-in-range, map-periodic}
-use Rattle.figures.proofs.LinkLaws.{counts, send-most-is, send-spread-is, hop-most-is, hop-spread-is, root-jitter-is, child-jitter-is, mux-wait-is}
+use Rattle.figures.proofs.LinkLaws.{counts, send-parts, hop-spread-is, root-jitter-is, child-jitter-is, mux-wait-is}
 use Rattle.figures.proofs.GivenLaws.{packets-bounds}
 
 -- ---- any flows
@@ -65,26 +71,27 @@ pub per-byte-bounds : (n : ℕ) → SpeedRange n → (1 ≤ n) × (n ≤ 10)
 per-byte-bounds n = ⊎-elim (λ (e : n ≡ 1). (omega arith, omega arith)) (λ (e : n ≡ 10). (omega arith, omega arith))
 
 module _ (net : Network) (ranges : Ranges net) (refs : References net) where
-  line-bounds : (v : ℕ) → v < length (net .vls) → (leastLine ≤ largestLine (vlAt net v .lmax)) × (largestLine (vlAt net v .lmax) ≤ 1538)
-  line-bounds v l = let vl = ranges .vl v l in largest-line-bounds (vlAt net v .lmax) (vl .lmax-least) (vl .lmax-greatest)
+  line-least : (v : ℕ) → v < length (net .vls) → leastLine ≤ largestLine (vlAt net v .lmax)
+  line-least v l = let vl = ranges .vl v l in largest-line-bounds (vlAt net v .lmax) (vl .lmax-least) (vl .lmax-greatest) .0
 
-  byte-most : (v : ℕ) → v < length (net .vls) → systemAt net (vlAt net v .system) .perbyte ≤ 10
-  byte-most v l = per-byte-bounds (systemAt net (vlAt net v .system) .perbyte) (ranges .system (vlAt net v .system) (refs .vl-system v l)) .1
+  pub send-most-bound : (v : ℕ) → v < length (net .vls) → sendMost net v ≤ 15380
+  unfolding sendMost
+  send-most-bound v l =
+      let e = vlAt net v .system in
+      let per = per-byte-bounds (systemAt net e .perbyte) (ranges .system e (refs .vl-system v l)) in
+      most-bound (systemLink net e) (per .1) (vlAt net v .lmax) (ranges .vl v l .lmax-greatest)
 
-  send-most-bound : (v : ℕ) → v < length (net .vls) → sendMost net v ≤ 15380
-  send-most-bound v l = rw (send-most-is net v) (mul-le-mul (line-bounds v l .1) (byte-most v l))
-
-  pub send-spread-bound : (v : ℕ) → v < length (net .vls) → sendSpread net v ≤ 15380
-  send-spread-bound v l =
-      let less : largestLine (vlAt net v .lmax) - leastLine ≤ 1538 = omega (arith, line-bounds v l .1) in
-      rw (send-spread-is net v) (mul-le-mul less (byte-most v l))
+  pub spread-of-vl : (v : ℕ) → v < length (net .vls) → (sendMost net v ≡ sendLine net v + sendSpread net v) × (sendSpread net v ≤ 15380)
+  spread-of-vl v l = let parts = send-parts net v (line-least v l) in (parts, omega (arith, parts, send-most-bound v l))
 
   hop-most-bounds : (h : ℕ) → h < length (net .hops) → (1 ≤ hopMost net h) × (hopMost net h ≤ 15380)
+  unfolding hopMost
   hop-most-bounds h l =
-      let line = line-bounds (hopAt net h .vl) (refs .hop-vl h l) in
-      let per = per-byte-bounds (portAt net (hopAt net h .port) .perbyte) (ranges .port (hopAt net h .port) (refs .hop-port h l) .per-byte) in
-      let some-bytes : 1 ≤ largestLine (vlAt net (hopAt net h .vl) .lmax) = omega (arith, least-line-is) in
-      rw (hop-most-is net h) (mul-le-mul {n₁ = 1} {m₁ = 1} some-bytes (per .0), mul-le-mul (line .1) (per .1))
+      let v = hopAt net h .vl in
+      let p = hopAt net h .port in
+      let there = refs .hop-vl h l in
+      let per = per-byte-bounds (portAt net p .perbyte) (ranges .port p (refs .hop-port h l) .per-byte) in
+      (most-some (portLink net p) (per .0) (vlAt net v .lmax) (line-least v there), most-bound (portLink net p) (per .1) (vlAt net v .lmax) (ranges .vl v there .lmax-greatest))
 
   hop-spread-bound : (h : ℕ) → h < length (net .hops) → hopSpread net h ≤ 1250
   hop-spread-bound h l = omega (arith, hop-spread-is net h, ranges .port (hopAt net h .port) (refs .hop-port h l) .delay-greatest)
@@ -97,6 +104,14 @@ module _ (net : Network) (ranges : Ranges net) (refs : References net) where
   pub mux-wait-bound : (v : ℕ) → muxWait net v ≤ 4095 * 15380
   mux-wait-bound v =
       omega (arith, mux-wait-is net v, sum-without-bound (vlAt net v .system) v (length (net .vls)) (omega arith), ranges .few-vls)
+
+  -- a mux wait that is noted
+  pub wait-noted : (waits : List ℕ) → waits ≡ lent (limits .vls) (waitsOf net) → (v : ℕ) → v < length (net .vls)
+      → (getD waits v 0 ≡ muxWait net v) × (getD waits v 0 ≤ 4095 * 15380)
+  unfolding waitsOf
+  wait-noted waits e v l =
+      let is = ap (λ (ws : List ℕ). getD ws v 0) e ∙ noted-at (muxWait net) (limits .vls) (length (net .vls)) v l in
+      (is, omega (arith, is, mux-wait-bound v))
 
   -- no busy length is longer
   longest-bound : net .tick .longest ≡ 125000000
@@ -156,7 +171,7 @@ module _ (net : Network) (ranges : Ranges net) (refs : References net) where
       go : ((g : ℕ) → g < length (net .hops) → routeLonger net n g ≡ false → jitterOf net g ≤ 63000000 + n * 125001250)
           → (o : Option ℕ) → parentAt net h ≡ o → jitterOf net h ≤ 63000000 + suc n * 125001250
       go ih none k =
-          omega (arith, figures-of net refs .root-is h l k, root-jitter-is net h, mux-wait-bound (hopAt net h .vl), send-spread-bound (hopAt net h .vl) (refs .hop-vl h l), hop-spread-bound h l)
+          omega (arith, figures-of net refs .root-is h l k, root-jitter-is net h, mux-wait-bound (hopAt net h .vl), spread-of-vl (hopAt net h .vl) (refs .hop-vl h l) .1, hop-spread-bound h l)
       go ih (some g) k =
           let row : g < length (net .hops) = omega (arith, refs .parent-earlier h g l k) in
           omega (

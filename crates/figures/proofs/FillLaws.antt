@@ -38,20 +38,12 @@ module _ (f : ℕ → ℕ) (m : ℕ) where
   noted-more n x h e = rw (add-one n) (lent-more m (tabulate f n) n x (length-tabulate f n) h ∙ ap (λ (y : ℕ). lent m (tabulate f n ++ (y ∷ []))) e)
 
   -- a zero behind is there already
-  noted-zero : (n : ℕ) → n < m → f n ≡ 0 → noted f m (suc n) ≡ noted f m n
+  pub noted-zero : (n : ℕ) → n < m → f n ≡ 0 → noted f m (n + 1) ≡ noted f m n
   unfolding tabulate lent
   noted-zero n h e =
       let less : m - length (tabulate f n) ≡ suc (m - suc n) = omega (arith, length-tabulate f n) in
       let rest : m - length (tabulate f (suc n)) ≡ m - suc n = omega (arith, length-tabulate f (suc n)) in
-      rw (rest, e, less) (append-assoc (tabulate f n) (0 ∷ []) (replicate (m - suc n) 0))
-
-  pub noted-zeros : (n j : ℕ) → n + j ≤ m → ((i : ℕ) → n ≤ i → i < n + j → f i ≡ 0) → noted f m (n + j) ≡ noted f m n
-  noted-zeros n zero h z = let e : n + 0 ≡ n = omega arith in ap (noted f m) e
-  noted-zeros n (suc j) h z =
-      let e : n + suc j ≡ suc (n + j) = omega arith in
-      ap (noted f m) e
-      ∙ noted-zero (n + j) (omega arith) (z (n + j) (omega arith) (omega arith))
-      ∙ noted-zeros n j (omega arith) (λ i a b. z i a (omega arith))
+      rw (add-one n, rest, e, less) (append-assoc (tabulate f n) (0 ∷ []) (replicate (m - suc n) 0))
 
   -- ---- what stands in it
   pub noted-at : (n i : ℕ) → i < n → getD (noted f m n) i 0 ≡ f i

@@ -5,27 +5,22 @@ use mathlib.Core.List.{List}
 use mathlib.Core.Option.{none, some}
 use mathlib.Core.Path.{_≡_, sym, ap, _∙_}
 use native.Mathlib.Omega.{arith}
-use lib.ListN.{length}
+use lib.ListN.{length, getD}
 use Rattle.frame.specs.Frame.{leastLine, largestLine}
-use Rattle.network.specs.declared.EndSystem.{EndSystem}
 use Rattle.network.specs.declared.Vl.{Vl}
 use Rattle.network.specs.declared.Port.{Port}
 use Rattle.network.specs.declared.Hop.{Hop}
-use Rattle.network.specs.Network.{Network, systemAt, vlAt, portAt, hopAt, parentAt}
+use Rattle.network.specs.Network.{Network, vlAt, portAt, hopAt, parentAt}
 use Rattle.network.specs.ReferenceFacts.{References}
 use Rattle.station.specs.Station.{Flow}
 use Rattle.rows.specs.Links.{sendSpread, muxWait, hopMost, hopLine, hopSpread}
 use Rattle.rows.specs.Ports.{hopFlow, jitterOf, figureOf}
 use Rattle.rows.proofs.PortLaws.{figures-of}
 use Rattle.sheet.specs.Sheet.{networkOn}
-use Rattle.figures.specs.Computing.{Above, HopAsked}
-use Rattle.figures.proofs.LinkLaws.{send-spread-is, hop-most-is, hop-least-is, hop-spread-is, root-jitter-is, child-jitter-is}
+use Rattle.figures.specs.Computing.{HopAsked}
+use Rattle.figures.proofs.LinkLaws.{hop-most-is, hop-least-is, hop-spread-is, root-jitter-is, child-jitter-is}
 
 module _ (net : Network) where
-  pub sent-apart-is : (v : ℕ) (vl : Vl) (system : EndSystem) (wait r : ℕ) → vl ≡ vlAt net v → system ≡ systemAt net (vl .system) → wait ≡ muxWait net v
-      → r ≡ (largestLine (vl .lmax) - leastLine) * system .perbyte → wait + r ≡ muxWait net v + sendSpread net v
-  sent-apart-is v vl system wait r is on w e = rw (w, e, on, is, send-spread-is net v)
-
   pub left-apart-is : (g : ℕ) (hop : Hop) (port : Port) (jitter figure line r : ℕ) → hop ≡ hopAt net g → port ≡ portAt net (hop .port)
       → jitter ≡ jitterOf net g → figure ≡ figureOf net g → line ≡ leastLine * port .perbyte → r ≡ figure - line
       → jitter + r ≡ jitterOf net g + (figureOf net g - hopLine net g)
@@ -51,15 +46,18 @@ module _ (net : Network) where
         λ i. record { period = gap i; jitter = late i; cost = most i }
 
 -- a hop's parent stands on a lower port, so its figure and jitter are noted
+pub record Above (net : Network) (g : ℕ) (figures jitters : List ℕ) : Type 0 where
+  pub row : g < length (net .hops)
+  pub figure-is : getD figures g 0 ≡ figureOf net g
+  pub jitter-is : getD jitters g 0 ≡ jitterOf net g
+
 pub above-noted : (sheet waits figures jitters : List ℕ) (h g : ℕ) (hop : Hop) → HopAsked sheet waits figures jitters h hop → parentAt (networkOn sheet) h ≡ some g
-    → Above sheet g figures jitters
+    → Above (networkOn sheet) g figures jitters
 above-noted sheet waits figures jitters h g hop asked child =
-    let good = asked .known .good in
-    let refs = good .references in
+    let refs = asked .known .good .references in
     let row : g < length (networkOn sheet .hops) = omega (arith, refs .parent-earlier h g (asked .there) child, asked .there) in
     let lower : hopAt (networkOn sheet) g .port < hop .port = rw (asked .is) (refs .parent-port h g (asked .there) child) in
     record {
-      good = good;
       row = row;
       figure-is = asked .known .figures-are .below g row lower;
       jitter-is = asked .known .jitters-are .below g row lower;

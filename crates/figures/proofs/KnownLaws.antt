@@ -16,22 +16,17 @@ use Rattle.table.specs.Read.{networkIn}
 use Rattle.sheet.specs.Sheet.{networkOn, Good}
 use Rattle.reader.specs.Reading.{readSheet}
 use Rattle.reader.proofs.FillLaws.{good-sheet}
-use Rattle.rows.specs.Links.{muxWait}
 use Rattle.rows.specs.Queues.{queueFigure}
 use Rattle.rows.specs.Ports.{figureOf}
 use Rattle.rows.specs.Rows.{rowsOf}
 use Rattle.answers.specs.Analysis.{analysisAnswer, accepts}
 use Rattle.answers.proofs.AcceptedLaws.{number-accepts, accepted-was}
-use Rattle.figures.specs.Figures.{waitsOf, queueAt, queuesOf, hopFigures, Figured}
+use Rattle.figures.specs.Figures.{queueAt, queuesOf, hopFigures, Figured}
 use Rattle.figures.specs.Judging.{Computed}
 use Rattle.figures.proofs.FillLaws.{noted-at}
 use Rattle.figures.proofs.QueueLaws.{queue-at}
 
 module _ (net : Network) (waits queues hops : List ℕ) (all : Computed net waits queues hops) where
-  pub wait-at : (v : ℕ) → v < length (net .vls) → getD waits v 0 ≡ muxWait net v
-  unfolding waitsOf
-  wait-at v l = ap (λ (ws : List ℕ). getD ws v 0) (all .waits-are) ∙ noted-at (muxWait net) (limits .vls) (length (net .vls)) v l
-
   pub queue-there : Ranges net → (v k : ℕ) → v < length (net .vls) → k < vlAt net v .sublinks → getD queues (v * 4 + k) 0 ≡ queueFigure net v k
   unfolding queuesOf
   queue-there ranges v k l h =

@@ -1,6 +1,6 @@
 -- Frames on links and jitters of hops in the numbers that they are computed from; the sum of an end system's frames with one VL left out, VL by VL; and that the sum of all and the mux wait are such sums.
 -- Assumes nothing.
-use Prim.Native.Nat.{ℕ, suc, _+_, _-_, _*_}
+use Prim.Native.Nat.{ℕ, suc, _+_, _-_, _*_, _≤_}
 use mathlib.Core.Bool.{Bool, _&&_, not, and-true, and-false}
 use mathlib.Core.List.{List, map}
 use mathlib.Core.Path.{_≡_, refl, sym, ap, _∙_}
@@ -16,7 +16,7 @@ use Rattle.base.proofs.TabulateLaws.{passing-same}
 use Rattle.network.specs.declared.EndSystem.{EndSystem}
 use Rattle.network.specs.declared.Vl.{Vl}
 use Rattle.network.specs.Link.{systemLink, portLink}
-use Rattle.network.proofs.LinkLaws.{most-ticks, least-ticks, spread-ticks}
+use Rattle.network.proofs.LinkLaws.{most-ticks, least-ticks, most-is}
 use Rattle.network.specs.Network.{Network, systemAt, vlAt, portAt, hopAt}
 use Rattle.rows.specs.Refusals.{sendsLate}
 use Rattle.rows.specs.Links.{sendMost, sendLine, sendSpread, sendSum, muxWait, hopMost, hopLine, hopSpread}
@@ -45,9 +45,14 @@ module _ (net : Network) where
   unfolding sendLine
   send-least-is v = rw least-line-is (least-ticks (systemLink net (vlAt net v .system)))
 
-  pub send-spread-is : (v : ℕ) → sendSpread net v ≡ (largestLine (vlAt net v .lmax) - leastLine) * systemAt net (vlAt net v .system) .perbyte
-  unfolding sendSpread
-  send-spread-is v = rw least-line-is (spread-ticks (systemLink net (vlAt net v .system)) (vlAt net v .lmax))
+  -- as it is computed, of a VL that was read
+  pub least-sent-by : (v : ℕ) (vl : Vl) (system : EndSystem) → vl ≡ vlAt net v → system ≡ systemAt net (vl .system) → 84 * system .perbyte ≡ sendLine net v
+  least-sent-by v vl system is on = rw (on, is, send-least-is v, least-line-is)
+
+  -- the least and what is between it and the most
+  pub send-parts : (v : ℕ) → leastLine ≤ largestLine (vlAt net v .lmax) → sendMost net v ≡ sendLine net v + sendSpread net v
+  unfolding sendMost sendLine sendSpread
+  send-parts v = most-is (systemLink net (vlAt net v .system)) (vlAt net v .lmax)
 
   pub hop-most-is : (h : ℕ) → hopMost net h ≡ largestLine (vlAt net (hopAt net h .vl) .lmax) * portAt net (hopAt net h .port) .perbyte
   unfolding hopMost

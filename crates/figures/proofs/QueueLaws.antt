@@ -1,13 +1,14 @@
--- Flows of a sub-link, and the queues of the VLs: what the steps of their computation say.
+-- Flows of a sub-link, and the queues of the VLs, place after place: what the steps of their computation say.
 -- Assumes nothing.
 use Prim.Native.Nat.{ℕ, _+_, _-_, _*_, _/_, _%_, _≤_, _<_}
 use mathlib.Core.Bool.{Bool, true, false, _&&_, not, and-false}
 use mathlib.Core.List.{List}
-use mathlib.Core.Path.{_≡_, sym, _∙_}
+use mathlib.Core.Path.{_≡_, sym, ap, _∙_}
 use native.Mathlib.Omega.{arith}
 use borrow.Author.Tests.{eq-eqb, ne-eqb, lt-ltb, le-ltb}
 use lib.Dec.{eqb}
-use lib.ListN.{length}
+use borrow.Author.Count.{below-more}
+use lib.ListN.{length, set, replicate}
 use Rattle.base.specs.Tests.{isSome}
 use Rattle.base.proofs.LeastLaws.{least-none, least-exists}
 use Rattle.base.proofs.TestLaws.{some-is, none-is}
@@ -27,10 +28,10 @@ use Rattle.rows.proofs.TickLaws.{queue-length-is, queue-figure-is}
 use Rattle.sheet.specs.declared.Delays.{Delays}
 use Rattle.figures.specs.declared.flows.Outcome.{Outcome}
 use Rattle.sheet.specs.Sheet.{delaysIn}
-use Rattle.figures.specs.Figures.{queueAt}
-use Rattle.figures.specs.Computing.{noted, QueueOf}
+use Rattle.figures.specs.Figures.{queueAt, queuesOf}
+use Rattle.figures.specs.Computing.{noted, QueueOf, QueuesDone}
 use Rattle.figures.specs.Gathering.{flowOf, Found}
-use Rattle.figures.proofs.FillLaws.{noted-zeros}
+use Rattle.figures.proofs.FillLaws.{noted-none, noted-more, noted-zero}
 use Rattle.figures.proofs.BoundLaws.{queue-offered}
 use Rattle.figures.proofs.GatherLaws.{Gathers, gather-room}
 
@@ -102,18 +103,59 @@ module _ (net : Network) (v k : ℕ) (four : k < 4) where
   unfolding queueAt
   queue-at h = rw (place-vl, place-link, lt-ltb k (vlAt net v .sublinks) h)
 
-  pub no-queue-at : vlAt net v .sublinks ≤ k → queueAt net (v * 4 + k) ≡ 0
-  unfolding queueAt
-  no-queue-at h = rw (place-vl, place-link, le-ltb k (vlAt net v .sublinks) h)
+-- ---- place after place: the figures of the first i places are noted, and no queue there is without a busy length
+pub record QueuesTo (net : Network) (i : ℕ) (queues : List ℕ) : Type 0 where
+  pub far : i ≤ length (net .vls) * 4
+  pub noted-are : queues ≡ noted (queueAt net) (limits .vls * 4) i
+  pub served : (j : ℕ) → j < i → j % 4 < vlAt net (j / 4) .sublinks → not (isSome (queueLength net (j / 4) (j % 4))) ≡ false
 
--- the sub-links that VL v has are noted, and it has no other
-pub vl-noted : (net : Network) (v k : ℕ) (queues : List ℕ) → k ≡ vlAt net v .sublinks → k ≤ 4 → v < limits .vls → queues ≡ noted (queueAt net) (limits .vls * 4) (v * 4 + k)
-    → queues ≡ noted (queueAt net) (limits .vls * 4) (v * 4 + 4)
-vl-noted net v k queues all few low e =
-    let rest : v * 4 + k + (4 - k) ≡ v * 4 + 4 = omega arith in
-    e ∙ sym (rw rest at (noted-zeros (queueAt net) (limits .vls * 4) (v * 4 + k) (4 - k) (omega arith) none-there))
-  where
-    none-there : (i : ℕ) → v * 4 + k ≤ i → i < v * 4 + k + (4 - k) → queueAt net i ≡ 0
-    none-there i a b =
-        let is : v * 4 + (i - v * 4) ≡ i = omega arith in
-        rw is at (no-queue-at net v (i - v * 4) (omega arith) (omega arith))
+pub queues-none : (net : Network) (queues : List ℕ) → queues ≡ replicate (limits .vls * 4) 0 → QueuesTo net 0 queues
+queues-none net queues e = record { far = omega arith; noted-are = e ∙ noted-none (queueAt net) (limits .vls * 4); served = λ j l. absurd (omega arith) }
+
+module _ (net : Network) (ranges : Ranges net) (i : ℕ) (queues : List ℕ) (so-far : QueuesTo net i queues) where
+  -- a VL whose places are all passed
+  vl-served : (u : ℕ) → u * 4 + 4 ≤ i → isSome (endlessSubLink net u) ≡ false
+  vl-served u h = no-sub-link-endless net u (λ k l.
+      let four : k < 4 = omega (arith, ranges .vl u (omega (arith, so-far .far)) .sub-links-greatest) in
+      rw (place-vl net u k four, place-link net u k four) at (so-far .served (u * 4 + k) (omega arith) (rw (place-vl net u k four, place-link net u k four) l)))
+
+  module _ (row : i < length (net .vls) * 4) where
+    -- the VL has no such sub-link: the zero there is its figure
+    pub queues-passed : vlAt net (i / 4) .sublinks ≤ i % 4 → QueuesTo net (i + 1) queues
+    unfolding queueAt
+    queues-passed h = record {
+      far = omega arith;
+      noted-are = so-far .noted-are
+          ∙ sym (noted-zero (queueAt net) (limits .vls * 4) i (omega (arith, ranges .few-vls)) (rw (le-ltb (i % 4) (vlAt net (i / 4) .sublinks) h)));
+      served = below-more (λ (j : ℕ). j % 4 < vlAt net (j / 4) .sublinks → not (isSome (queueLength net (j / 4) (j % 4))) ≡ false) i
+          (so-far .served) (λ l. absurd (omega arith));
+    }
+
+    module _ (here : i % 4 < vlAt net (i / 4) .sublinks) (o : Outcome) (is : QueueOf net (i / 4) (i % 4) o) where
+      pub queues-endless : (left : List ℕ) → o .endless ≡ true → QueuesDone net (i / 4) left
+      queues-endless left e = record {
+        first = record {
+          inside = omega arith;
+          before = λ u l. vl-served u (omega arith);
+          there = λ l. sub-link-endless net (i / 4) (i % 4) here (sym (is .endless-is) ∙ e);
+        };
+        queues-are = λ l. absurd (omega arith);
+      }
+
+      pub queues-more : o .endless ≡ false → QueuesTo net (i + 1) (set queues i (o .figure))
+      unfolding queueAt
+      queues-more e = record {
+        far = omega arith;
+        noted-are = ap (λ (qs : List ℕ). set qs i (o .figure)) (so-far .noted-are)
+            ∙ noted-more (queueAt net) (limits .vls * 4) i (o .figure) (omega (arith, ranges .few-vls))
+            (is .figure-is ∙ sym (rw (lt-ltb (i % 4) (vlAt net (i / 4) .sublinks) here)));
+        served = below-more (λ (j : ℕ). j % 4 < vlAt net (j / 4) .sublinks → not (isSome (queueLength net (j / 4) (j % 4))) ≡ false) i
+            (so-far .served) (λ l. sym (is .endless-is) ∙ e);
+      }
+
+  pub queues-all : length (net .vls) * 4 ≤ i → (n : ℕ) → n ≡ length (net .vls) → QueuesDone net n queues
+  unfolding queuesOf
+  queues-all done n e = record {
+    first = record { inside = omega arith; before = λ u l. vl-served u (omega arith); there = λ l. absurd (omega arith) };
+    queues-are = λ l. so-far .noted-are ∙ ap (noted (queueAt net) (limits .vls * 4)) (omega (arith, so-far .far));
+  }

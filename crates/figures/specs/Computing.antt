@@ -76,16 +76,6 @@ pub record QueueOf (net : Network) (v k : ℕ) (r : Outcome) : Type 0 where
   pub endless-is : r .endless ≡ not (isSome (queueLength net v k))
   pub figure-is : r .figure ≡ queueFigure net v k
 
--- the queues of the VLs before VL v are noted, and then those of VL v too, where none of them is without a busy length
-pub record VlAsked (sheet : List ℕ) (v : ℕ) (queues : List ℕ) : Type 0 where
-  pub good : Good sheet
-  pub row : v < length (networkOn sheet .vls)
-  pub before : queues ≡ noted (queueAt (networkOn sheet)) (limits .vls * 4) (v * 4)
-
-pub record VlQueues (net : Network) (v : ℕ) (r : Bool) (queues : List ℕ) : Type 0 where
-  pub endless-is : r ≡ isSome (endlessSubLink net v)
-  pub after : r ≡ false → queues ≡ noted (queueAt net) (limits .vls * 4) (v * 4 + 4)
-
 -- what is asked for and found for all VLs: the first with a queue that has no busy length; where there is none, all are noted
 pub record QueuesAsked (sheet queues : List ℕ) : Type 0 where
   pub good : Good sheet
@@ -100,19 +90,6 @@ pub record Noted (net : Network) (f : ℕ → ℕ) (p : ℕ) (list : List ℕ) :
   pub long : length list ≡ limits .hops
   pub below : (h : ℕ) → h < length (net .hops) → hopAt net h .port < p → getD list h 0 ≡ f h
   pub behind : (i : ℕ) → length (net .hops) ≤ i → getD list i 0 ≡ 0
-
--- VL v's mux wait is noted
-pub record VlWaits (sheet : List ℕ) (v : ℕ) (waits : List ℕ) : Type 0 where
-  pub good : Good sheet
-  pub row : v < length (networkOn sheet .vls)
-  pub waits-are : waits ≡ lent (limits .vls) (waitsOf (networkOn sheet))
-
--- hop g's figure and jitter are noted
-pub record Above (sheet : List ℕ) (g : ℕ) (figures jitters : List ℕ) : Type 0 where
-  pub good : Good sheet
-  pub row : g < length (networkOn sheet .hops)
-  pub figure-is : getD figures g 0 ≡ figureOf (networkOn sheet) g
-  pub jitter-is : getD jitters g 0 ≡ jitterOf (networkOn sheet) g
 
 -- the waits, and the figures and jitters of the hops on ports below p
 pub record PortAsked (sheet waits figures jitters : List ℕ) (p : ℕ) : Type 0 where

@@ -1,17 +1,15 @@
 // A frame on a link, and the mux wait: what the VLs of one end system cost one another.
 // Gives 01's answer 7.
 use crate::frames;
-use frame::Frame;
 use frame::Tick;
 use layout::sizes::MOST_VLS;
 use layout::sizes::SHEET;
 use network::Vl;
 ghost use mathlib.Core.Path.{_≡_};
-ghost use Prim.Native.Nat.{_<_, _≤_, _-_, _*_};
+ghost use Prim.Native.Nat.{_<_, _≤_, _*_};
 ghost use lib.ListN.{length, replicate};
-ghost use Rattle.frame.specs.Frame.{leastLine, largestLine};
+ghost use Rattle.frame.specs.Frame.{largestLine};
 ghost use Rattle.layout.specs.Limits.{limits};
-ghost use Rattle.rows.specs.Links.{sendSum, muxWait};
 ghost use Rattle.rows.specs.Refusals.{sendsLate};
 ghost use Rattle.table.specs.Sections.{lent};
 ghost use Rattle.sheet.specs.Sheet.{networkOn, Good};
@@ -26,15 +24,7 @@ pub fn frame_most(vl: Vl, perbyte: u64) -> u64
     frames::line(vl.lmax) * perbyte
 }
 
-// What is between the most and the least.
-pub fn frame_spread(vl: Vl, perbyte: u64) -> u64
-    requires { ⌜ OnLink vl perbyte ⌝ }
-    ensures { λ r. ⌜ (r ≡ (largestLine (vl .lmax) - leastLine) * perbyte) × (r ≤ 15380) ⌝ }
-{
-    (frames::line(vl.lmax) - Frame::LEAST_LINE) * perbyte
-}
-
-// The frames of the VLs of end system e, VL `but` left out.
+// The frames of the VLs of end system e, VL `but` left out: the mux wait of `but`, and the frames of all where there is no such VL.
 fn sum_without(net: &[u64; SHEET], e: usize, but: usize) -> u64
     requires { ⌜ Good (now net) × (e < length (networkOn (now net) .systems)) ⌝ }
     ensures { λ r. ⌜ r ≡ sumWithout (networkOn (now (net .entry))) e but (length (networkOn (now (net .entry)) .vls)) ⌝ }
@@ -55,22 +45,6 @@ fn sum_without(net: &[u64; SHEET], e: usize, but: usize) -> u64
     sum
 }
 
-// The frames of all VLs of end system e.
-fn send_sum(net: &[u64; SHEET], e: usize) -> u64
-    requires { ⌜ Good (now net) × (e < length (networkOn (now net) .systems)) ⌝ }
-    ensures { λ r. ⌜ r ≡ sendSum (networkOn (now (net .entry))) e ⌝ }
-{
-    sum_without(net, e, sheet::vls_in(net))
-}
-
-fn mux_wait(net: &[u64; SHEET], v: usize) -> u64
-    requires { ⌜ Good (now net) × (v < length (networkOn (now net) .vls)) ⌝ }
-    ensures { λ r. ⌜ r ≡ muxWait (networkOn (now (net .entry))) v ⌝ }
-{
-    let vl = sheet::vl_at(net, v);
-    sum_without(net, vl.system, v)
-}
-
 // The mux wait of each VL, in a list that is zero before.
 pub fn mux_waits(net: &[u64; SHEET], waits: &mut [u64; MOST_VLS])
     requires { ⌜ Good (now net) × (now waits ≡ replicate (limits .vls) 0) ⌝ }
@@ -79,7 +53,8 @@ pub fn mux_waits(net: &[u64; SHEET], waits: &mut [u64; MOST_VLS])
     let n = sheet::vls_in(net);
     let mut v = 0;
     while v < n {
-        waits[v] = mux_wait(net, v);
+        let vl = sheet::vl_at(net, v);
+        waits[v] = sum_without(net, vl.system, v);
         v += 1;
     }
 }
@@ -90,9 +65,10 @@ pub fn late_system(net: &[u64; SHEET]) -> usize
     ensures { λ r. ⌜ First (sendsLate (networkOn (now (net .entry)))) (length (networkOn (now (net .entry)) .systems)) r ⌝ }
 {
     let n = sheet::systems_in(net);
+    let none = sheet::vls_in(net);
     let mut e = 0;
     while e < n {
-        if !Tick::sends_in_time(send_sum(net, e)) {
+        if !Tick::sends_in_time(sum_without(net, e, none)) {
             return e;
         }
         e += 1;

@@ -13,12 +13,12 @@ use network::Parent;
 use network::Port;
 use station::Flow;
 ghost use mathlib.Core.Path.{_≡_};
-ghost use Prim.Native.Nat.{_≤_, _+_, _-_, _*_, suc};
+ghost use Prim.Native.Nat.{_≤_, _+_, _-_, suc};
 ghost use Rattle.network.specs.Network.{portAt};
-ghost use Rattle.rows.specs.Links.{sendSpread, muxWait, hopLine, hopSpread};
+ghost use Rattle.rows.specs.Links.{hopSpread};
 ghost use Rattle.rows.specs.Ports.{hopFlow, jitterOf, figureOf};
 ghost use Rattle.sheet.specs.Sheet.{networkOn};
-ghost use Rattle.figures.specs.Computing.{PortRange, Noted, VlWaits, Above, HopAsked, PortAsked, PortGathered, FigureFor, PortsAsked, PortsDone};
+ghost use Rattle.figures.specs.Computing.{PortRange, Noted, HopAsked, PortAsked, PortGathered, FigureFor, PortsAsked, PortsDone};
 
 // What is between the greatest and the least switch delay before a port.
 fn spread(port: Port) -> u64
@@ -28,32 +28,8 @@ fn spread(port: Port) -> u64
     port.greatest - port.least
 }
 
-// By how much the frames of VL v are apart when they leave the end system.
-fn sent_apart(net: &[u64; SHEET], waits: &[u64; MOST_VLS], v: usize) -> u64
-    requires { ⌜ VlWaits (now net) v (now waits) ⌝ }
-    ensures { λ r. ⌜ (r ≡ muxWait (networkOn (now (net .entry))) v + sendSpread (networkOn (now (net .entry))) v) × (r ≤ 4096 * 15380) ⌝ }
-{
-    let vl = sheet::vl_at(net, v);
-    let system = sheet::system_at(net, vl.system);
-    waits[v] + links::frame_spread(vl, system.perbyte)
-}
-
-// By how much they are apart when they leave the port of hop g.
-fn left_apart(
-    net: &[u64; SHEET],
-    figures: &[u64; MOST_HOPS],
-    jitters: &[u64; MOST_HOPS],
-    g: usize,
-) -> u64
-    requires { ⌜ Above (now net) g (now figures) (now jitters) ⌝ }
-    ensures { λ r. ⌜ (r ≡ jitterOf (networkOn (now (net .entry))) g + (figureOf (networkOn (now (net .entry))) g - hopLine (networkOn (now (net .entry))) g)) × (r ≤ 1225000000) ⌝ }
-{
-    let hop = sheet::hop_at(net, g);
-    let port = sheet::port_at(net, hop.port);
-    jitters[g] + frames::less(figures[g], Frame::LEAST_LINE * port.perbyte)
-}
-
-// By how much they are apart when they come to the switch before hop h, where the jitters and the figures of the hops on lower ports are known.
+// By how much the frames are apart that come to the switch before hop h, where the jitters and the figures of the hops on lower ports are known:
+// the mux wait and what is between their most and least ticks behind the end system; the parent's jitter and figure, less its least frame, behind a port.
 fn come_apart(
     net: &[u64; SHEET],
     waits: &[u64; MOST_VLS],
@@ -67,9 +43,15 @@ fn come_apart(
 {
     let parent = hop.parent;
     let Parent::After(g) = parent else {
-        return sent_apart(net, waits, hop.vl);
+        let v = hop.vl;
+        let vl = sheet::vl_at(net, v);
+        let system = sheet::system_at(net, vl.system);
+        let perbyte = system.perbyte;
+        return waits[v] + (links::frame_most(vl, perbyte) - Frame::LEAST_LINE * perbyte);
     };
-    left_apart(net, figures, jitters, g)
+    let above = sheet::hop_at(net, g);
+    let port = sheet::port_at(net, above.port);
+    jitters[g] + frames::less(figures[g], Frame::LEAST_LINE * port.perbyte)
 }
 
 // The flow of hop h on its port.

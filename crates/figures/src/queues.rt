@@ -15,7 +15,7 @@ ghost use mathlib.Core.Path.{_≡_};
 ghost use Rattle.rows.specs.Queues.{queueFlows};
 ghost use Rattle.station.specs.Flat.{flowsIn};
 ghost use Rattle.sheet.specs.Sheet.{networkOn};
-ghost use Rattle.figures.specs.Computing.{QueueRange, VlThere, QueueOf, VlAsked, VlQueues, QueuesAsked, QueuesDone};
+ghost use Rattle.figures.specs.Computing.{QueueRange, VlThere, QueueOf, QueuesAsked, QueuesDone};
 ghost use Rattle.figures.specs.Gathering.{flowOf};
 
 // The flow of a stream of a VL.
@@ -64,43 +64,27 @@ fn queue(net: &[u64; SHEET], v: usize, vl: Vl, k: usize, flows: &mut [u64; FLOWS
     }
 }
 
-// The queues of VL v, up to the first without a busy length: whether there is one.
-fn vl_queues(
-    net: &[u64; SHEET],
-    v: usize,
-    flows: &mut [u64; FLOWS],
-    queues: &mut [u64; QUEUES],
-) -> bool
-    requires { ⌜ VlAsked (now net) v (now queues) ⌝ }
-    ensures { λ r. ⌜ VlQueues (networkOn (now (net .entry))) v r (now (queues .exit)) ⌝ }
-{
-    let vl = sheet::vl_at(net, v);
-    let n = vl.sublinks;
-    let mut k = 0;
-    while k < n {
-        let o = queue(net, v, vl, k, flows);
-        let endless = o.endless;
-        if endless {
-            return true;
-        }
-        queues[v * MOST_SUBLINKS + k] = o.figure;
-        k += 1;
-    }
-    false
-}
-
-// 9: the first VL with a queue that has no busy length, or their number; the figures, in a list that is zero before.
+// 9: the first VL with a queue that has no busy length, or their number; the figures by place, in a list that is zero before.
 pub fn all_queues(net: &[u64; SHEET], flows: &mut [u64; FLOWS], queues: &mut [u64; QUEUES]) -> usize
     requires { ⌜ QueuesAsked (now net) (now queues) ⌝ }
     ensures { λ r. ⌜ QueuesDone (networkOn (now (net .entry))) r (now (queues .exit)) ⌝ }
 {
     let n = sheet::vls_in(net);
-    let mut v = 0;
-    while v < n {
-        if vl_queues(net, v, flows, queues) {
-            return v;
+    let places = n * MOST_SUBLINKS;
+    let mut i = 0;
+    while i < places {
+        let v = i / MOST_SUBLINKS;
+        let k = i % MOST_SUBLINKS;
+        let vl = sheet::vl_at(net, v);
+        if k < vl.sublinks {
+            let o = queue(net, v, vl, k, flows);
+            let endless = o.endless;
+            if endless {
+                return v;
+            }
+            queues[i] = o.figure;
         }
-        v += 1;
+        i += 1;
     }
     n
 }

@@ -8,9 +8,8 @@ use Rattle.frame.specs.Frame.{largestLine}
 use Rattle.sheet.specs.Sheet.{networkOn}
 use Rattle.figures.specs.Computing.{OnLink}
 use Rattle.figures.proofs.GivenLaws.{line-is}
-use Rattle.figures.proofs.LinkLaws.{sent-by}
+use Rattle.figures.proofs.LinkLaws.{sent-by, least-sent-by}
 use Rattle.figures.proofs.RangeLaws.{vl-on-link}
-use Rattle.analysis.proofs.RowLaws.{send-read}
 use borrow.Author.Needs.{needs}
 use Rattle.analysis.proofs.results.frame_ticks.Statement.{statement}
 use Rattle.analysis.proofs.results.frame_ticks.Tie as tie
@@ -40,7 +39,7 @@ returns c =
     record {
       most-is = sent-by _ _ _ _ _ _ vl refl (system .ensures) (ap (λ (n : ℕ). n * system .result .perbyte) (is .0));
       most-bound = is .1;
-      least-is = send-read _ _ _ _ vl (system .ensures);
+      least-is = least-sent-by _ _ _ _ vl (system .ensures);
       least-bound = omega (arith, on-link (read .before));
     }
 

@@ -7,8 +7,7 @@ use lib.ListN.{length, getD}
 use Rattle.network.specs.declared.Stream.{Stream}
 use Rattle.rows.specs.Links.{muxWait}
 use Rattle.sheet.specs.Sheet.{networkOn}
-use Rattle.figures.proofs.BoundLaws.{mux-wait-bound}
-use Rattle.figures.proofs.KnownLaws.{wait-at}
+use Rattle.figures.proofs.BoundLaws.{wait-noted}
 use Rattle.figures.proofs.RangeLaws.{delays-range, stream-range, stream-vl}
 use Rattle.analysis.proofs.KnownLaws.{hops-known, queues-known}
 use Rattle.analysis.proofs.RowLaws.{worst-read, best-read, row-read}
@@ -26,9 +25,7 @@ waited : (c : tie.After-stream-at) →
     (getD (a .waits .now) v 0 ≡ muxWait (networkOn (a .net .now)) v) × (getD (a .waits .now) v 0 ≤ 4095 * 15380)
 waited c =
     let known = c .before .before .pre .0 in
-    let v = c .stream-at .result .vl in
-    let is = wait-at _ _ _ _ (known .computed) v (vl-there c) in
-    (is, omega (arith, is, mux-wait-bound _ (known .good .ranges) (known .good .references) v))
+    wait-noted _ (known .good .ranges) (known .good .references) _ (known .computed .waits-are) _ (vl-there c)
 
 queue-of-requires : tie.Need-queue-of-requires
 queue-of-requires c κs = let p = c .before .before .pre in queues-known _ _ _ _ (p .0) _ (p .1 .stream-there)
