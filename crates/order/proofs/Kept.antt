@@ -16,7 +16,7 @@ use denote.Ref.{now}
 use Rattle.table.specs.declared.Answer.{Answer}
 use Rattle.table.specs.declared.Unpacked.{Unpacked}
 use Rattle.table.specs.declared.Written.{Written}
-use Rattle.table.specs.Unpack.{Lengths, Unpacks}
+use Rattle.table.specs.Unpack.{Unpacks}
 use Rattle.table.specs.Lists.{Lists}
 use Rattle.table.specs.Write.{Writes}
 use Rattle.table.specs.Read.{readAnswer}
@@ -47,21 +47,11 @@ analyses-prop bytes room r result p q i = record {
   rows-are = list-set _ _ (p .rows-are) (q .rows-are) i;
 }
 
-unpacks-prop : (bytes : List ℕ) (n : Lengths) (r : Unpacked) (header systems vls streams ports hops : List ℕ)
-    → IsProp (Unpacks bytes n r header systems vls streams ports hops)
-unpacks-prop bytes n r header systems vls streams ports hops p q i = record {
+unpacks-prop : (bytes : List ℕ) (before : Lists) (r : Unpacked) (after : Lists) → IsProp (Unpacks bytes before r after)
+unpacks-prop bytes before r after p q i = record {
   answer = answer-set _ _ (p .answer) (q .answer) i;
-  systems-count = ℕ-set _ _ (p .systems-count) (q .systems-count) i;
-  vls-count = ℕ-set _ _ (p .vls-count) (q .vls-count) i;
-  streams-count = ℕ-set _ _ (p .streams-count) (q .streams-count) i;
-  ports-count = ℕ-set _ _ (p .ports-count) (q .ports-count) i;
-  hops-count = ℕ-set _ _ (p .hops-count) (q .hops-count) i;
-  header-left = list-set _ _ (p .header-left) (q .header-left) i;
-  systems-left = list-set _ _ (p .systems-left) (q .systems-left) i;
-  vls-left = list-set _ _ (p .vls-left) (q .vls-left) i;
-  streams-left = list-set _ _ (p .streams-left) (q .streams-left) i;
-  ports-left = list-set _ _ (p .ports-left) (q .ports-left) i;
-  hops-left = list-set _ _ (p .hops-left) (q .hops-left) i;
+  counts = list-set _ _ (p .counts) (q .counts) i;
+  held = λ s. list-set _ _ (p .held s) (q .held s) i;
 }
 
 writes-prop : (ls : Lists) (room : ℕ) (r : Written) (out : List ℕ) → IsProp (Writes ls room r out)
@@ -86,7 +76,7 @@ kept 𝓤 H 𝓜 𝓖 𝓡 = record {
   check-promises = λ κs a g x ws m. fact-is 𝓤 (Check-promise κs a x ws) (answer-set x (readAnswer (now (a .0)))) m;
   unpack-meets = unpack-met 𝓤 H 𝓜 𝓖 𝓡;
   unpack-asks-nothing = λ κs a. (tt, λ m. tt);
-  unpack-promises = λ κs a g x ws m. fact-is 𝓤 (Unpack-promise κs a x ws) (unpacks-prop _ _ x _ _ _ _ _ _) m;
+  unpack-promises = λ κs a g x ws m. fact-is 𝓤 (Unpack-promise κs a x ws) (unpacks-prop _ _ x _) m;
   write-meets = write-met 𝓤 H 𝓜 𝓖 𝓡;
   write-asks-nothing = λ κs a. (tt, λ m. tt);
   write-promises = λ κs a g x ws m. fact-is 𝓤 (Write-promise κs a x ws) (writes-prop _ _ x _) m;

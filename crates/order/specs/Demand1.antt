@@ -5,12 +5,12 @@
 use Prim.Native.Nat.{ℕ, _<_}
 use mathlib.Core.List.{List}
 use mathlib.Core.Path.{_≡_}
-use lib.ListN.{replicate}
+use lib.ListN.{length, replicate}
 use Rattle.table.specs.declared.Answer.{Answer}
 use Rattle.table.specs.declared.Unpacked.{Unpacked}
 use Rattle.table.specs.declared.Written.{Written}
-use Rattle.table.specs.Unpack.{Lengths, unpackAnswer, Unpacks}
-use Rattle.table.specs.Lists.{Lists}
+use Rattle.table.specs.Unpack.{unpackAnswer, counted, Unpacks}
+use Rattle.table.specs.Lists.{Lists, listFor}
 use Rattle.table.specs.Write.{writeAnswer, Writes}
 use Rattle.table.specs.Read.{readAnswer}
 use Rattle.analysis.specs.declared.Analysed.{Analysed}
@@ -29,20 +29,11 @@ pub record ReaderRefuses (bytes : List ℕ) (r : Answer) : Type 0 where
   pub answer : r ≡ readAnswer bytes
   pub analysis-alike : 0 < r .number → (room : ℕ) → analysisAnswer bytes room ≡ r
 
--- the unpacker, with six lent lists of n numbers: 1 to 4 and 11, and on a refusal no records and zeros
-pub record UnpackerRefuses (bytes : List ℕ) (n : Lengths) (r : Unpacked) (header systems vls streams ports hops : List ℕ) : Type 0 where
-  pub answer : r .answer ≡ unpackAnswer bytes n
-  pub no-systems : 0 < r .answer .number → r .systems ≡ 0
-  pub no-vls : 0 < r .answer .number → r .vls ≡ 0
-  pub no-streams : 0 < r .answer .number → r .streams ≡ 0
-  pub no-ports : 0 < r .answer .number → r .ports ≡ 0
-  pub no-hops : 0 < r .answer .number → r .hops ≡ 0
-  pub header-zero : 0 < r .answer .number → header ≡ replicate (n .header) 0
-  pub systems-zero : 0 < r .answer .number → systems ≡ replicate (n .systems) 0
-  pub vls-zero : 0 < r .answer .number → vls ≡ replicate (n .vls) 0
-  pub streams-zero : 0 < r .answer .number → streams ≡ replicate (n .streams) 0
-  pub ports-zero : 0 < r .answer .number → ports ≡ replicate (n .ports) 0
-  pub hops-zero : 0 < r .answer .number → hops ≡ replicate (n .hops) 0
+-- the unpacker, with six lent lists: 1 to 4 and 11, and on a refusal no records and zeros
+pub record UnpackerRefuses (bytes : List ℕ) (before : Lists) (r : Unpacked) (after : Lists) : Type 0 where
+  pub answer : r .answer ≡ unpackAnswer bytes before
+  pub no-records : 0 < r .answer .number → counted r ≡ replicate 5 0
+  pub all-zero : 0 < r .answer .number → (s : ℕ) → listFor after s ≡ replicate (length (listFor before s)) 0
 
 -- the writer, with `room` lent bytes: 2, 4 and 11, and on a refusal no table and zeros
 pub record WriterRefuses (ls : Lists) (room : ℕ) (r : Written) (out : List ℕ) : Type 0 where
@@ -55,6 +46,5 @@ pub record Demand-1 : Type 0 where
       (bytes : List ℕ) (room : ℕ) (r : Analysed) (result : List ℕ) → Analyses bytes room r result → AnalysisRefuses bytes room r result
   pub reader : (bytes : List ℕ) (r : Answer) → r ≡ readAnswer bytes → ReaderRefuses bytes r
   pub unpacker :
-      (bytes : List ℕ) (n : Lengths) (r : Unpacked) (header systems vls streams ports hops : List ℕ)
-      → Unpacks bytes n r header systems vls streams ports hops → UnpackerRefuses bytes n r header systems vls streams ports hops
+      (bytes : List ℕ) (before : Lists) (r : Unpacked) (after : Lists) → Unpacks bytes before r after → UnpackerRefuses bytes before r after
   pub writer : (ls : Lists) (room : ℕ) (r : Written) (out : List ℕ) → Writes ls room r out → WriterRefuses ls room r out

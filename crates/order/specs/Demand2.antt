@@ -1,11 +1,11 @@
 -- The order, demand 2: "Each figure equals what 01 lays down .. number for number. Where refusals 1 to 8 do not apply, a load refusal is
 -- given exactly if no busy length within 01's limit exists. Fields written to a table read back the same, and an accepted table, unpacked
 -- and written again, gives the same bytes." Assumes nothing.
-use Prim.Native.Nat.{ℕ, _*_, _%_, _^_, _≤_, _<_}
+use Prim.Native.Nat.{ℕ, zero, suc, _*_, _%_, _^_, _≤_, _<_}
 use mathlib.Core.List.{List}
 use mathlib.Core.Option.{none, some}
 use mathlib.Core.Path.{_≡_}
-use lib.ListN.{length, take}
+use lib.ListN.{length, getD, take}
 use Rattle.base.specs.Tests.{numberOr0}
 use Rattle.bits.specs.Bits.{Bytes}
 use Rattle.frame.specs.Frame.{protocolOverhead, leastLine, largestLine}
@@ -21,8 +21,8 @@ use Rattle.table.specs.declared.Unpacked.{Unpacked}
 use Rattle.table.specs.declared.Written.{Written}
 use Rattle.table.specs.Answers.{accepted}
 use Rattle.table.specs.Sections.{row, lent}
-use Rattle.table.specs.Unpack.{Lengths, Unpacks}
-use Rattle.table.specs.Lists.{Lists, unpacked}
+use Rattle.table.specs.Unpack.{counted, Unpacks}
+use Rattle.table.specs.Lists.{Lists, listsBy, listFor, unpacked}
 use Rattle.table.specs.Write.{Writes}
 use Rattle.table.specs.Read.{networkIn, readAnswer}
 use Rattle.table.specs.RoundTrip.{RoomFor, Unpack-after-write, Write-after-unpack, Determined}
@@ -85,30 +85,18 @@ pub record GapTable : Type 0 where
       → (v : ℕ) → v < length (networkIn bytes .vls) → gapOf (named 2 (row bytes 2 v) name.Gap) ≡ some (vlAt (networkIn bytes) v .gap)
 
 -- what a caller has in hand of the six lent lists: the header's numbers, and as many records of each section as the unpacker counted
-unfoldable pub fronts : Unpacked → (header systems vls streams ports hops : List ℕ) → Lists
-fronts u header systems vls streams ports hops = record {
-  header = take (length headerNames) header;
-  systems = take (u .systems * listed 1) systems;
-  vls = take (u .vls * listed 2) vls;
-  streams = take (u .streams * listed 3) streams;
-  ports = take (u .ports * listed 4) ports;
-  hops = take (u .hops * listed 5) hops;
-}
+unfoldable pub inHand : Unpacked → ℕ → ℕ
+inHand u zero = length headerNames
+inHand u (suc s) = getD (counted u) s 0 * listed (suc s)
 
--- lent lists of n numbers hold these and then zeros
-pub record Hold (ls : Lists) (n : Lengths) (header systems vls streams ports hops : List ℕ) : Type 0 where
-  pub header-are : header ≡ lent (n .header) (ls .header)
-  pub systems-are : systems ≡ lent (n .systems) (ls .systems)
-  pub vls-are : vls ≡ lent (n .vls) (ls .vls)
-  pub streams-are : streams ≡ lent (n .streams) (ls .streams)
-  pub ports-are : ports ≡ lent (n .ports) (ls .ports)
-  pub hops-are : hops ≡ lent (n .hops) (ls .hops)
+unfoldable pub fronts : Unpacked → Lists → Lists
+fronts u after = listsBy (λ s. take (inHand u s) (listFor after s))
 
--- the unpacker accepted, and a caller has these lists in hand, with zeros behind them in lent lists of n numbers
-pub record Unpacked-to (ls : Lists) (n : Lengths) (u : Unpacked) (header systems vls streams ports hops : List ℕ) : Type 0 where
+-- the unpacker accepted, and a caller has these lists in hand, with zeros behind them in the lent lists
+pub record Unpacked-to (ls before : Lists) (u : Unpacked) (after : Lists) : Type 0 where
   pub answer : u .answer ≡ accepted
-  pub same-lists : fronts u header systems vls streams ports hops ≡ ls
-  pub hold : Hold ls n header systems vls streams ports hops
+  pub same-lists : fronts u after ≡ ls
+  pub hold : (s : ℕ) → listFor after s ≡ lent (length (listFor before s)) (listFor ls s)
 
 -- the writer accepted, and left these bytes at the front of `room` lent ones, with zeros behind them
 pub record Written-to (bytes : List ℕ) (room : ℕ) (w : Written) (out : List ℕ) : Type 0 where
@@ -138,23 +126,18 @@ pub record Demand-2 : Type 0 where
   pub unpack-after-write : Unpack-after-write
   pub written-then-unpacked :
       (ls : Lists) (room : ℕ) (w : Written) (out : List ℕ) → Writes ls room w out → w .answer ≡ accepted
-      → (n : Lengths) → RoomFor ls n
-      → (u : Unpacked) (header systems vls streams ports hops : List ℕ)
-      → Unpacks (take (w .length) out) n u header systems vls streams ports hops
-      → Unpacked-to ls n u header systems vls streams ports hops
+      → (before : Lists) → RoomFor ls before
+      → (u : Unpacked) (after : Lists) → Unpacks (take (w .length) out) before u after → Unpacked-to ls before u after
   -- "an accepted table, unpacked and written again, gives the same bytes": likewise. What the unpacker leaves a caller in hand is accepted
   -- by the writer, into any lent bytes that are long enough for the table. (`Bytes bytes`, each number is below 256, is so of any slice of
   -- u8: its content has no other numbers.)
   pub write-after-unpack : Write-after-unpack
   pub unpacked-is :
-      (bytes : List ℕ) (n : Lengths) (u : Unpacked) (header systems vls streams ports hops : List ℕ)
-      → Unpacks bytes n u header systems vls streams ports hops → u .answer ≡ accepted
-      → Unpacked-to (unpacked bytes) n u header systems vls streams ports hops
+      (bytes : List ℕ) (before : Lists) (u : Unpacked) (after : Lists) → Unpacks bytes before u after → u .answer ≡ accepted
+      → Unpacked-to (unpacked bytes) before u after
   pub unpacked-then-written :
       (bytes : List ℕ) → Bytes bytes
-      → (n : Lengths) (u : Unpacked) (header systems vls streams ports hops : List ℕ)
-      → Unpacks bytes n u header systems vls streams ports hops → u .answer ≡ accepted
+      → (before : Lists) (u : Unpacked) (after : Lists) → Unpacks bytes before u after → u .answer ≡ accepted
       → (room : ℕ) → length bytes ≤ room
-      → (w : Written) (out : List ℕ) → Writes (fronts u header systems vls streams ports hops) room w out
-      → Written-to bytes room w out
+      → (w : Written) (out : List ℕ) → Writes (fronts u after) room w out → Written-to bytes room w out
   pub determined : Determined

@@ -15,6 +15,7 @@ use denote.Ref.{now}
 use denote.Triple.Clauses.{Ended, Clauses, Lasts, atExit, closing}
 use denote.Triple.Entry.{Args, Res}
 use denote.Triple.Spec.{Meets}
+use Rattle.table.specs.Lists.{lists}
 use Rattle.table.specs.Unpack.{Unpacks}
 use Rattle.table.specs.Write.{Writes}
 use Rattle.table.specs.Read.{readAnswer}
@@ -44,28 +45,18 @@ Check-promise κs a x ws = x ≡ readAnswer (now (a .0))
 abbrev pub Unpack-promise : Claim unpack.ended
 Unpack-promise κs a x ws =
     Unpacks (now (a .0))
-    (record {
-      header = length (now (a .1 .0));
-      systems = length (now (a .1 .1 .0));
-      vls = length (now (a .1 .1 .1 .0));
-      streams = length (now (a .1 .1 .1 .1 .0));
-      ports = length (now (a .1 .1 .1 .1 .1 .0));
-      hops = length (now (a .1 .1 .1 .1 .1 .1 .0));
-    })
-    x (ws .1 .0) (ws .1 .1 .0) (ws .1 .1 .1 .0) (ws .1 .1 .1 .1 .0) (ws .1 .1 .1 .1 .1 .0) (ws .1 .1 .1 .1 .1 .1 .0)
+    (lists
+    (now (a .1 .0)) (now (a .1 .1 .0)) (now (a .1 .1 .1 .0)) (now (a .1 .1 .1 .1 .0)) (now (a .1 .1 .1 .1 .1 .0))
+    (now (a .1 .1 .1 .1 .1 .1 .0)))
+    x
+    (lists (ws .1 .0) (ws .1 .1 .0) (ws .1 .1 .1 .0) (ws .1 .1 .1 .1 .0) (ws .1 .1 .1 .1 .1 .0) (ws .1 .1 .1 .1 .1 .1 .0))
 
 -- the writer: six lists, and lent bytes
 abbrev pub Write-promise : Claim write.ended
 Write-promise κs a x ws =
     Writes
-    (record {
-      header = now (a .0);
-      systems = now (a .1 .0);
-      vls = now (a .1 .1 .0);
-      streams = now (a .1 .1 .1 .0);
-      ports = now (a .1 .1 .1 .1 .0);
-      hops = now (a .1 .1 .1 .1 .1 .0);
-    })
+    (lists
+    (now (a .0)) (now (a .1 .0)) (now (a .1 .1 .0)) (now (a .1 .1 .1 .0)) (now (a .1 .1 .1 .1 .0)) (now (a .1 .1 .1 .1 .1 .0)))
     (length (now (a .1 .1 .1 .1 .1 .1 .0))) x (ws .1 .1 .1 .1 .1 .1 .0)
 
 -- every call of a routine ends, with what its clauses ensure (`Meets` is the toolchain's own word). 𝓤 to 𝓡 are what its logic is over

@@ -3,6 +3,7 @@
 use unpacker::unpack;
 use writer::write;
 ghost use lib.ListN.{length};
+ghost use Rattle.table.specs.Lists.{lists};
 ghost use Rattle.table.specs.Unpack.{Unpacks};
 ghost use Rattle.table.specs.Write.{Writes};
 ghost use Rattle.packedtable.specs.Answers.{unpackSaid, writeSaid};
@@ -36,21 +37,21 @@ pub extern "C" fn avulgjesh_unpack(
         ⌜
         Unpacks
         (now (table .entry))
-        (record {
-          header = length (now (header .entry));
-          systems = length (now (systems .entry));
-          vls = length (now (vls .entry));
-          streams = length (now (streams .entry));
-          ports = length (now (ports .entry));
-          hops = length (now (hops .entry));
-        })
+        (lists
+        (now (header .entry))
+        (now (systems .entry))
+        (now (vls .entry))
+        (now (streams .entry))
+        (now (ports .entry))
+        (now (hops .entry)))
         (unpackSaid r)
+        (lists
         (now (header .exit))
         (now (systems .exit))
         (now (vls .exit))
         (now (streams .exit))
         (now (ports .exit))
-        (now (hops .exit))
+        (now (hops .exit)))
         ⌝ }
 {
     let u = unpack(table, header, systems, vls, streams, ports, hops);
@@ -92,14 +93,13 @@ pub extern "C" fn avulgjesh_write(
     ensures { λ r.
         ⌜
         Writes
-        (record {
-          header = now (header .entry);
-          systems = now (systems .entry);
-          vls = now (vls .entry);
-          streams = now (streams .entry);
-          ports = now (ports .entry);
-          hops = now (hops .entry);
-        })
+        (lists
+        (now (header .entry))
+        (now (systems .entry))
+        (now (vls .entry))
+        (now (streams .entry))
+        (now (ports .entry))
+        (now (hops .entry)))
         (length (now (out .entry)))
         (writeSaid r)
         (now (out .exit))

@@ -28,11 +28,11 @@ use Rattle.table.specs.Answers.{accepted, firstGiven}
 use Rattle.table.specs.Sections.{rows, records, lent}
 use Rattle.table.specs.Lists.{listFor, recordsIn, recordAt, headerOf, unpacked}
 use Rattle.table.specs.Read.{networkIn, answer5, answer6, readAnswer}
-use Rattle.table.proofs.AnswerLaws.{Sound, unpack-was}
+use Rattle.table.proofs.AnswerLaws.{Sound}
 use Rattle.table.proofs.HeaderLaws.{five}
 use Rattle.layout.proofs.LayoutLaws.{listed-some}
 use Rattle.table.proofs.UnpackLaws.{list-is, length-list, length-header}
-use Rattle.table.proofs.ReadingLaws.{few, readersLengths, own-refused, own-accepted}
+use Rattle.table.proofs.ReadingLaws.{few, own-refused, own-accepted}
 use Rattle.table.proofs.HeldLaws.{vl-row}
 use Rattle.table.proofs.ReadLaws.{count-read, record-read, read-references, read-sound, sound-ranges, read-ranges}
 use Rattle.unpacker.specs.Unpacking.{tableAnswer, fitting}
@@ -66,7 +66,7 @@ head-is bytes d n e f =
 -- ---- a table that 1 to 4 are not given to
 pub own-sound : (bytes : List ℕ) → tableAnswer bytes .number ≡ 0 → Sound bytes
 unfolding tableAnswer
-own-sound bytes e = unpack-was bytes readersLengths (own-accepted bytes e .0)
+own-sound bytes e = own-accepted bytes e .0
 
 module _ (bytes : List ℕ) (sound : Sound bytes) where
   -- ---- all records of a section fit
@@ -82,7 +82,7 @@ module _ (bytes : List ℕ) (sound : Sound bytes) where
   section-block s n h e =
       ap (λ (m : ℕ). lent m (records bytes (suc s) (fitting bytes (suc s) m))) e
       ∙ ap (λ (m : ℕ). lent (capacity (suc s)) (records bytes (suc s) m)) (all-fit s h)
-      ∙ ap (lent (capacity (suc s))) (sym (list-is bytes s h))
+      ∙ ap (lent (capacity (suc s))) (sym (list-is bytes (suc s) h))
 
   header-whole : length (unpacked bytes .header) ≡ length headerNames
   unfolding unpacked
