@@ -13,24 +13,24 @@ use Rattle.parser.specs.declared.mistakes.Fault.the-variants.{Nothing}
 use Rattle.parser.specs.declared.mistakes.Mistake.{Mistake}
 use Rattle.parser.specs.Mistakes.{isFault}
 use Rattle.parser.specs.Tables.{firstMistake, padded, readList, readLength}
-use Rattle.texts.specs.Texts.{listsBy, textFor, LongEnough, Printed-is-read, Printed-read-back}
+use Rattle.texts.specs.Texts.{textFor, LongEnough, Printed-is-read, Printed-read-back}
 use Rattle.texts.proofs.SaidLaws.{printable, list-back}
 use Rattle.texts.proofs.PrintedLaws.{printed-right}
 
 module _ (ls : Lists) (w : Writable ls) (rooms : List ℕ) (long : LongEnough ls rooms) where
   no-fault : firstMistake (textFor ls) rooms .fault ≡ Nothing
-  unfolding LongEnough listsBy
-  no-fault = printed-right (listsBy ls) (printable ls w) (w .header-list) rooms long
+  unfolding LongEnough listFor
+  no-fault = printed-right (listFor ls) (printable ls w) (w .header-list) rooms long
 
   none-found : isFault (firstMistake (textFor ls) rooms .fault) ≡ false
   unfolding isFault
   none-found = ap isFault no-fault
 
-  list-read : (s : ℕ) → s ≤ 5 → readList (textFor ls) rooms s ≡ padded (getD rooms s 0) (listsBy ls s)
+  list-read : (s : ℕ) → s ≤ 5 → readList (textFor ls) rooms s ≡ padded (getD rooms s 0) (listFor ls s)
   unfolding readList
   list-read s h = rw (none-found, list-back ls w s h)
 
-  length-read : (s : ℕ) → s < 6 → readLength (textFor ls) rooms s ≡ length (listsBy ls s)
+  length-read : (s : ℕ) → s < 6 → readLength (textFor ls) rooms s ≡ length (listFor ls s)
   unfolding readLength
   length-read s h = rw (none-found, list-back ls w s (omega arith))
 
@@ -38,13 +38,13 @@ pub printed-is-read : Printed-is-read
 printed-is-read ls room e rooms long = no-fault ls (write-was ls room e) rooms long
 
 pub printed-read-back : Printed-read-back
-unfolding listsBy listFor
+unfolding listFor
 printed-read-back ls room e rooms long r header systems vls streams ports hops to =
     let w = write-was ls room e in
     let list = list-read ls w rooms long in
     record {
       mistake = ap (λ (m : Mistake). m .fault) (to .mistake) ∙ no-fault ls w rooms long;
-      lengths = to .lengths ∙ tabulate-same (readLength (textFor ls) rooms) (λ s. length (listsBy ls s)) 6 (length-read ls w rooms long);
+      lengths = to .lengths ∙ tabulate-same (readLength (textFor ls) rooms) (λ s. length (listFor ls s)) 6 (length-read ls w rooms long);
       header-is = to .header-is ∙ list 0 (omega arith);
       systems-are = to .systems-are ∙ list 1 (omega arith);
       vls-are = to .vls-are ∙ list 2 (omega arith);

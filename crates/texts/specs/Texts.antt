@@ -1,14 +1,14 @@
 -- Tables as text, both ways: a table that is unpacked and printed is packed from that text to the same bytes, a text that can be packed
 -- says what its table unpacks to, and what is printed is read without a mistake. Assumes nothing.
-use Prim.Native.Nat.{ℕ, zero, suc, _≤_}
+use Prim.Native.Nat.{ℕ, _≤_}
 use mathlib.Core.List.{List}
 use mathlib.Core.Path.{_≡_}
 use lib.ListN.{length, getD}
 use Rattle.base.specs.Tabulate.{tabulate}
 use Rattle.bits.specs.Bits.{Bytes}
 use Rattle.table.specs.Answers.{accepted}
-use Rattle.table.specs.Lists.{Lists, listFor, unpacked}
-use Rattle.table.specs.Unpack.{Lengths, unpackAnswer}
+use Rattle.table.specs.Lists.{Lists, listsBy, listFor, unpacked}
+use Rattle.table.specs.Unpack.{unpackAnswer}
 use Rattle.table.specs.Write.{writeAnswer, packed}
 use Rattle.notation.specs.Meant.{listIn}
 use Rattle.notation.specs.Printed.{printed}
@@ -16,25 +16,13 @@ use Rattle.parser.specs.declared.mistakes.Fault.the-variants.{Nothing}
 use Rattle.parser.specs.declared.Parsed.{Parsed}
 use Rattle.parser.specs.Tables.{firstMistake, padded, ReadsTo}
 
--- the list of a section, of section 0 the version and the delays
-unfoldable pub listsBy : Lists → ℕ → List ℕ
-listsBy ls zero = ls .header
-listsBy ls (suc s) = listFor ls (suc s)
-
 -- the lists that a text says
 unfoldable pub said : List ℕ → Lists
-said text = record {
-  header = listIn text 0;
-  systems = listIn text 1;
-  vls = listIn text 2;
-  streams = listIn text 3;
-  ports = listIn text 4;
-  hops = listIn text 5;
-}
+said text = listsBy (listIn text)
 
 -- the text that is printed for lists
 abbrev pub textFor : Lists → List ℕ
-textFor ls = printed (listsBy ls)
+textFor ls = printed (listFor ls)
 
 -- lists that the writer accepts are what the text printed for them says
 abbrev pub Said-back : Type 0
@@ -42,7 +30,7 @@ Said-back = (ls : Lists) (room : ℕ) → writeAnswer ls room ≡ accepted → s
 
 -- lent lists that are long enough for these
 unfoldable pub LongEnough : Lists → List ℕ → Type 0
-LongEnough ls rooms = (s : ℕ) → s ≤ 5 → length (listsBy ls s) ≤ getD rooms s 0
+LongEnough ls rooms = (s : ℕ) → s ≤ 5 → length (listFor ls s) ≤ getD rooms s 0
 
 -- what is printed for them is read without a mistake, into any lent lists that are long enough
 abbrev pub Printed-is-read : Type 0
@@ -53,7 +41,7 @@ Printed-is-read =
 -- lists that were read: no mistake, how long each is, and each as it is, with zeros behind
 pub record ListsRead (ls : Lists) (rooms : List ℕ) (r : Parsed) (header systems vls streams ports hops : List ℕ) : Type 0 where
   pub mistake : r .mistake .fault ≡ Nothing
-  pub lengths : r .lengths ≡ tabulate (λ s. length (listsBy ls s)) 6
+  pub lengths : r .lengths ≡ tabulate (λ s. length (listFor ls s)) 6
   pub header-is : header ≡ padded (getD rooms 0 0) (ls .header)
   pub systems-are : systems ≡ padded (getD rooms 1 0) (ls .systems)
   pub vls-are : vls ≡ padded (getD rooms 2 0) (ls .vls)
@@ -71,7 +59,7 @@ Printed-read-back =
 -- unpacked, printed, read and packed again, a table that the unpacker accepts is the same bytes; `Bytes bytes` as in the table's round trip
 abbrev pub Pack-after-unpack : Type 0
 Pack-after-unpack =
-    (bytes : List ℕ) (n : Lengths) → Bytes bytes → unpackAnswer bytes n ≡ accepted → (room : ℕ) → length bytes ≤ room
+    (bytes : List ℕ) (before : Lists) → Bytes bytes → unpackAnswer bytes before ≡ accepted → (room : ℕ) → length bytes ≤ room
     → (writeAnswer (said (textFor (unpacked bytes))) room ≡ accepted) × (packed (said (textFor (unpacked bytes))) ≡ bytes)
 
 -- a text that can be packed says the lists that its table unpacks to, and what is printed for them says them again
