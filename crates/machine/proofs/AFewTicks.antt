@@ -207,8 +207,8 @@ pub not-there : complete small 167 (at-once .choice 167) (state small at-once 16
 unfolding state lineTicks onLine leaf isParent isSome leastFrom
 not-there = refl
 
--- ---- one message of 10 bytes: send delay 2, end system to 86, switch 1, port 0 to 171, switch 2, port 1 to 257, receive 3; what lands is what
--- the run says enters
+-- ---- one message of 10 bytes: send delay 2, end system to 86, switch 1, port 0 to 171, switch 2, port 1 to 257, receive 3; what lands is
+-- what the run says enters
 abbrev pub two : Network
 two = network 9 (vl ∷ []) (stream-on 0 ∷ []) (port-to 9 ∷ port-to 9 ∷ [])
     (record { vl = 0; port = 0; parent = Root } ∷ record { vl = 0; port = 1; parent = After 0 } ∷ [])

@@ -43,7 +43,8 @@ module _ (net : Network) (sound : Sound net) (busy : Busy net) where
     abbrev more : Continued net r n
     more = continued net sound r n per
 
-    same : (t h : ℕ) → t < n → complete net t (more .run .choice t) (state net (more .run) t) h ≡ complete net t (r .choice t) (state net r t) h
+    same : (t h : ℕ) → t < n
+        → complete net t (more .run .choice t) (state net (more .run) t) h ≡ complete net t (r .choice t) (state net r t) h
     same t h k = rw (more .same-choice t k, more .same-state t (omega arith))
 
     to-more : (t : ℕ) (m : Message) (h : ℕ) → SentTo net r n t m h → SentTo net (more .run) n t m h
@@ -58,7 +59,8 @@ module _ (net : Network) (sound : Sound net) (busy : Busy net) where
     row : (t : ℕ) (m : Message) (h : ℕ) → SentTo net r n t m h → m .stream < length (net .streams)
     row t m h s = good net (more .run) (more .permitted) t m (to-more t m h s .released) .stream
 
-    later : (t : ℕ) (m : Message) (h : ℕ) → SentTo net r n t m h → t + worst net (m .stream) h < n → Complete net r m h (t + worst net (m .stream) h)
+    later : (t : ℕ) (m : Message) (h : ℕ) → SentTo net r n t m h → t + worst net (m .stream) h < n
+        → Complete net r m h (t + worst net (m .stream) h)
     later t m h s enough k hk =
         let e = worst-is net sound busy (m .stream) h (row t m h s) (s .row) (s .same-vl) in
         let c = no-later net sound win (more .run) (more .permitted) n t m h (to-more t m h s) k hk in
@@ -88,7 +90,8 @@ module _ (net : Network) (sound : Sound net) (busy : Busy net) where
 
     longer : (v t : ℕ) (x : Packet) → t < n → Hands net r v t x → Waited net r n x t (queueOf net (x .message .stream))
     longer v t x k e =
-        let w = waits net sound win (more .run) (more .permitted) n v t x (rw (more .same-choice t k, more .same-state t (omega arith)) e) in
+        let w = waits net sound win (more .run) (more .permitted) n v t x
+        (rw (more .same-choice t k, more .same-state t (omega arith)) e) in
         record {
           came = w .came;
           reach = rw (more .same-choice (w .came) (omega (arith, w .not-before))) at (w .reach);

@@ -1,4 +1,4 @@
--- All that is in the lanes, in one list, and the lanes' names: what is brought to lanes stands beside what was in them, and a turn takes one out.
+-- All that is in the lanes in one list, and their names: what is brought to lanes stands beside what was in them, and a turn takes one out.
 -- Assumes nothing.
 use Prim.Native.Nat.{ℕ, zero, suc}
 use mathlib.Core.List.{List, [], _∷_, _++_, append-assoc, append-nil, map, map-append, List·Memᴰ}
@@ -46,7 +46,8 @@ module _ {X : Type 0} where
 
   pub flat-add : (f : ℕ → List X) (ls : List (Lane X)) → List·Permᴰ (flat ls ++ gather f (names ls)) (flat (add f ls))
   flat-add f [] = List·Permᴰ·nil
-  flat-add f (l ∷ ls) = rw (append-assoc (l .line) (flat ls) (gather f (names (l ∷ ls))), append-assoc (l .line) (f (l .name)) (flat (add f ls)))
+  flat-add f (l ∷ ls) =
+      rw (append-assoc (l .line) (flat ls) (gather f (names (l ∷ ls))), append-assoc (l .line) (f (l .name)) (flat (add f ls)))
       (Permᴰ·append-left (l .line)
       (List·Permᴰ·trans (perm-between (flat ls) (f (l .name)) (gather f (names ls))) (Permᴰ·append-left (f (l .name)) (flat-add f ls))))
 
@@ -72,7 +73,8 @@ module _ {X : Type 0} where
 
   -- it takes none only if there is none
   pub none-waits : (ls : List (Lane X)) → serve [] ls .got ≡ none → flat (serve [] ls .lanes) ≡ []
-  none-waits ls e = ⊎-elim (λ k. absurd (Option·none-ne-some (k .head) (sym e ∙ k .got))) (λ k. rw (k .now) (flat-empty ls (k .empty))) (turn ls)
+  none-waits ls e = ⊎-elim (λ k. absurd (Option·none-ne-some (k .head) (sym e ∙ k .got))) (λ k. rw (k .now) (flat-empty ls (k .empty)))
+      (turn ls)
 
   -- ---- lanes tick by tick, each with its name: what a tick brings to them, `new t i` to the lane named i
   module _ (new : ℕ → ℕ → List X) (lanes : ℕ → List (Lane X)) (stay : (t : ℕ) → List·Permᴰ (names (lanes t)) (names (lanes (suc t)))) where

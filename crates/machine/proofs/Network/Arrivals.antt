@@ -2,7 +2,8 @@
 -- Assumes nothing.
 use Prim.Native.Nat.{ℕ, suc, _+_, _*_, _≤_, _<_}
 use mathlib.Core.Bool.{Bool, true, false, cond, _&&_}
-use mathlib.Core.List.{List, [], _∷_, _++_, List·Memᴰ, List·Memᴰ·head, List·Memᴰ·tail, List·Memᴰ·not-nil, List·Memᴰ·append-cases, Memᴰ·append-left, Memᴰ·append-right, Permᴰ·symm}
+use mathlib.Core.List.{List, [], _∷_, _++_, List·Memᴰ, List·Memᴰ·head, List·Memᴰ·tail, List·Memᴰ·not-nil, List·Memᴰ·append-cases}
+use mathlib.Core.List.{Memᴰ·append-left, Memᴰ·append-right, Permᴰ·symm}
 use mathlib.Core.Logic.{⊎-elim}
 use mathlib.Core.Path.{_≡_, refl, sym, ap, subst}
 use native.Mathlib.Nat.{mul-assoc, le-refl}
@@ -64,7 +65,8 @@ module _ (net : Network) (v i : ℕ) where
   lane-weight c (m ∷ ms) =
       let w : Message → ℕ = λ n. length (packetsIn net n) * c in
       let e = lane-weight c ms in
-      elim (test m) as (λ b. length (cond b (packetsIn net m) [] ++ toLane net v i ms) * c ≡ weigh w (cond b (m ∷ []) [] ++ chosen test (λ n. n) ms))
+      elim (test m) as
+      (λ b. length (cond b (packetsIn net m) [] ++ toLane net v i ms) * c ≡ weigh w (cond b (m ∷ []) [] ++ chosen test (λ n. n) ms))
       [ true ↦ omega (arith, ap (λ (n : ℕ). n * c) (length-append (packetsIn net m) (toLane net v i ms))) | false ↦ e ]
 
 -- the cost of a stream's flow, as packets times what the virtual server spends on each

@@ -43,7 +43,8 @@ periodic-map f [] h = tt
 periodic-map f (s ∷ l) h = (h s (List·Memᴰ·head refl), periodic-map f l (λ n k. h n (List·Memᴰ·tail k)))
 
 -- where there is no flow nothing comes; where there is one the busy length exists, and the figure of that length covers every span
-station-covers : (lim : ℕ) (f : ℕ → Flow) (ns : List ℕ) → ((s : ℕ) → List·Memᴰ s ns → (0 < f s .period) × Has (busyLengthTo lim (map f ns))) → (d : ℕ)
+station-covers : (lim : ℕ) (f : ℕ → Flow) (ns : List ℕ)
+    → ((s : ℕ) → List·Memᴰ s ns → (0 < f s .period) × Has (busyLengthTo lim (map f ns))) → (d : ℕ)
     → brought (map f ns) d ≤ figure (map f ns) (numberOr0 (busyLengthTo lim (map f ns))) + d
 unfolding brought
 station-covers lim f [] h d = omega arith

@@ -46,7 +46,8 @@ unfolding total
 weigh-count cost c [] h = omega arith
 weigh-count cost c (x ∷ l) h = omega (arith, h x (List·Memᴰ·head refl), weigh-count cost c l (λ y m. h y (List·Memᴰ·tail m)))
 
-module _ (net : Network) (sound : Sound net) (r : Run) (per : Permitted net r) (win : Windows net) (v : ℕ) (hv : v < length (net .vls)) where
+module _ (net : Network) (sound : Sound net) (r : Run) (per : Permitted net r) (win : Windows net)
+    (v : ℕ) (hv : v < length (net .vls)) where
   abbrev e : ℕ
   e = vlAt net v .system
 
@@ -81,7 +82,8 @@ module _ (net : Network) (sound : Sound net) (r : Run) (per : Permitted net r) (
   looked = looks net r e
 
   ordered : (t : ℕ) → List·Permᴰ (add (new t) (mux (endCost net e) s₀ new looked t .lanes)) (looked t)
-  ordered t = subst (λ (s : Mux Frame). List·Permᴰ (add (new t) (s .lanes)) (looked t)) (end-is net r e t) (per (suc t) .turns t e (le-refl (suc t)))
+  ordered t = subst (λ (s : Mux Frame). List·Permᴰ (add (new t) (s .lanes)) (looked t)) (end-is net r e t)
+      (per (suc t) .turns t e (le-refl (suc t)))
 
   -- the end system's link, and what comes to it
   abbrev cost : Frame → ℕ
@@ -105,8 +107,7 @@ module _ (net : Network) (sound : Sound net) (r : Run) (per : Permitted net r) (
     line = MuxLaws.line cost s₀ empty₀ new looked ordered;
     link = link;
     ins = ins;
-    line₀ = MuxLaws.line₀ cost s₀ empty₀ new looked ordered;
-    link₀ = refl;
+    none₀ = (MuxLaws.line₀ cost s₀ empty₀ new looked ordered, refl);
     step = MuxLaws.step cost s₀ empty₀ new looked ordered;
     pos = λ t f m. let w = came t f m in stamped t (w .0) f (w .1) .1;
   }
@@ -141,7 +142,8 @@ module _ (net : Network) (sound : Sound net) (r : Run) (per : Permitted net r) (
   bound : (x d : ℕ) → d < window → span (λ t. weigh cost (ins t)) x d ≤ sendSum net e
   unfolding sendSum vlsOf
   bound x d h = simp (ins-weigh cost) (span-sum (λ t i. weigh cost (new t i)) c x d ns
-      (λ i m. let w = was-passing (λ w. eqb (vlAt net w .system) e) (length (net .vls)) i m in one-each i (w .0) (eqb→eq (vlAt net i .system) e (w .1)) x d h))
+      (λ i m. let w = was-passing (λ w. eqb (vlAt net w .system) e) (length (net .vls)) i m in
+      one-each i (w .0) (eqb→eq (vlAt net i .system) e (w .1)) x d h))
 
   abbrev mine : Frame → Bool
   mine f = eqb (f .vl) v

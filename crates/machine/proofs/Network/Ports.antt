@@ -47,7 +47,8 @@ module _ (net : Network) (sound : Sound net) (r : Run) (per : Permitted net r) (
   unfolding hopsOn
   flight h hh = looser (omega arith) (omega arith)
       (delay-same (λ t. refl) (λ t. lands-is net r h t)
-      (on-the-way (λ u. ch net r u .flight h) (source net r h) (portAt net (port-of h) .least) (portAt net (port-of h) .greatest) (λ t f m. let p = per (suc t) in let l = le-refl (suc t) in (p .flight-least t h f l hh m, p .flight-greatest t h f l hh m)))
+      (on-the-way (λ u. ch net r u .flight h) (source net r h) (portAt net (port-of h) .least) (portAt net (port-of h) .greatest)
+      (λ t f m. let p = per (suc t) in let l = le-refl (suc t) in (p .flight-least t h f l hh m, p .flight-greatest t h f l hh m)))
       then delay-same (λ t. hops-at h (λ g. eqb (port-of g) (port-of h)) (λ g. lands-at net r g t) (eqb-refl (port-of h)) (length (net .hops)) hh) (λ t. refl)
       (delay-chosen (λ c. eqb (c .hop) h) (λ c. c .frame) (reordered (λ t. per (suc t) .enter t (port-of h) (le-refl (suc t))))))
 
@@ -75,7 +76,8 @@ module _ (net : Network) (sound : Sound net) (r : Run) (per : Permitted net r) (
 
     known : (t : ℕ) (c : Copy) → List·Memᴰ c (ins t) → Known t c
     known t c m =
-        let w = was-gathered (λ h. chosen (λ f. true) (copy h) (lands-at net r h t)) ns c (perm-mem (Permᴰ·symm (per (suc t) .enter t p (le-refl (suc t)))) m) in
+        let w = was-gathered (λ h. chosen (λ f. true) (copy h) (lands-at net r h t)) ns c
+        (perm-mem (Permᴰ·symm (per (suc t) .enter t p (le-refl (suc t)))) m) in
         let q = on-port net p (w .0) (w .1) in
         let o = was-chosen (λ f. true) (copy (w .0)) (lands-at net r (w .0) t) c (w .2) in
         let e : w .0 ≡ c .hop = ap (λ (z : Copy). z .hop) (o .is) in
@@ -113,7 +115,8 @@ module _ (net : Network) (sound : Sound net) (r : Run) (per : Permitted net r) (
         let gap : Flow = record { period = vlAt net v .gap; jitter = 0; cost = 0 } in
         let wide : 0 + (win .late h - win .soon h) ≡ jitterOf net h = omega (arith, win .spread h hh) in
         let q = envelope (hand net r v) (into net r h) (win .soon h) (win .late h) (arrive h hh e) (λ f. f .born)
-        (λ t f m. hand-fact net sound r per v win hv t f m .0) gap (sound .gap v hv) (λ y c. rw (add-zero c) (hand-rate net sound r per v win hv y c)) x d in
+        (λ t f m. hand-fact net sound r per v win hv t f m .0) gap (sound .gap v hv)
+        (λ y c. rw (add-zero c) (hand-rate net sound r per v win hv y c)) x d in
         rw (e, wide) at (simp (chosen-any (λ (c : Copy). eqb (c .hop) h) (λ c. c .frame)) at q)
 
     bound : (x d : ℕ) → span (λ t. weigh (portCost net p) (ins t)) x d ≤ brought (portFlows net (jitterOf net) p) d
@@ -122,7 +125,8 @@ module _ (net : Network) (sound : Sound net) (r : Run) (per : Permitted net r) (
         (λ h m. let i = on-port net p h m in hop-rate h (i .0) (i .1))
 
     port-delay : Delay ins (fifo-out (portCost net p) ins) lo (portFigure net (jitterOf net) p)
-    port-delay = fifo-delay (portCost net p) ins (λ t c m. costs t c m .0) (brought (portFlows net (jitterOf net) p)) (portFigure net (jitterOf net) p)
+    port-delay = fifo-delay (portCost net p) ins (λ t c m. costs t c m .0) (brought (portFlows net (jitterOf net) p))
+        (portFigure net (jitterOf net) p)
         bound (win .port-covers p) lo (λ t c m. costs t c m .1)
 
     held : (t : ℕ) → Held-within p t
@@ -181,4 +185,5 @@ module _ (net : Network) (sound : Sound net) (r : Run) (per : Permitted net r) (
       then hop-delay (port-of h) (arrive (port-of h)) h refl
       then delay-same (λ t. ap (λ (b : Bool). cond b (left net r h t) []) k) (λ t. done-is net r h t)
       (on-the-way (λ u. ch net r u .receive h) (λ u. cond (leaf net h) (left net r h u) []) (net .receiveLeast) (net .receiveGreatest)
-      (λ t f m. let i = subst (λ (b : Bool). List·Memᴰ f (cond b (left net r h t) [])) k m in let p = per (suc t) in let l = le-refl (suc t) in (p .receive-least t h f l k i, p .receive-greatest t h f l k i)))
+      (λ t f m. let i = subst (λ (b : Bool). List·Memᴰ f (cond b (left net r h t) [])) k m in
+      let p = per (suc t) in let l = le-refl (suc t) in (p .receive-least t h f l k i, p .receive-greatest t h f l k i)))

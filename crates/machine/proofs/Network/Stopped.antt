@@ -16,7 +16,8 @@ use Rattle.station.specs.Station.{most}
 use Rattle.machine.specs.Sum.{span, count}
 use Rattle.machine.specs.Pool.{landed}
 use Rattle.machine.specs.Messages.{Release, Message, messages}
-use Rattle.machine.specs.Machine.{State, Choice, Run, released, delivered, setsOut, reaches, endJoined, allSending, step, start, state}
+use Rattle.machine.specs.Machine.{State, Choice, Run, released, delivered, setsOut, reaches, endJoined, allSending, step, start}
+use Rattle.machine.specs.Machine.{state}
 use Rattle.machine.specs.Permitted.{Sized, streamFlow, releasedBy, PermittedBelow}
 use Rattle.machine.specs.Sound.{Sound}
 use Rattle.machine.specs.Runs.{Continued}
@@ -95,17 +96,24 @@ module _ (net : Network) (sound : Sound net) (r : Run) (n : ℕ) (per : Permitte
   continued = record {
     run = on;
     permitted = λ k. record {
-      sized = λ t x i. by-leb (suc t) n (λ (l : List Release). List·Memᴰ x l → Sized net x) (λ h. per .sized t x h) (λ h j. absurd (List·Memᴰ·not-nil j));
+      sized = λ t x i. by-leb (suc t) n (λ (l : List Release). List·Memᴰ x l → Sized net x) (λ h. per .sized t x h)
+          (λ h j. absurd (List·Memᴰ·not-nil j));
       rule = λ s hs x d i. rule-on s hs x d;
-      send-least = λ t m i. each (λ t ms c s. List·Memᴰ m ms → net .sendLeast ≤ c .send m) (λ t. per .send-least t m) (λ t j. le-refl (net .sendLeast)) t;
-      send-greatest = λ t m i. each (λ t ms c s. List·Memᴰ m ms → c .send m ≤ net .sendGreatest) (λ t. per .send-greatest t m) (λ t j. sound .send) t;
-      reach = λ t i. each (λ t ms c s. List·Permᴰ (landed t (allSending net t ms c s)) (c .reach)) (per .reach) (λ t. Permᴰ·refl (rest t (ext t) .reach)) t;
-      enter = λ t p i. each (λ t ms c s. List·Permᴰ (reaches net t c s p) (c .enter p)) (λ t. per .enter t p) (λ t. Permᴰ·refl (rest t (ext t) .enter p)) t;
+      send-least = λ t m i. each (λ t ms c s. List·Memᴰ m ms → net .sendLeast ≤ c .send m) (λ t. per .send-least t m)
+          (λ t j. le-refl (net .sendLeast)) t;
+      send-greatest = λ t m i. each (λ t ms c s. List·Memᴰ m ms → c .send m ≤ net .sendGreatest) (λ t. per .send-greatest t m)
+          (λ t j. sound .send) t;
+      reach = λ t i. each (λ t ms c s. List·Permᴰ (landed t (allSending net t ms c s)) (c .reach)) (per .reach)
+          (λ t. Permᴰ·refl (rest t (ext t) .reach)) t;
+      enter = λ t p i. each (λ t ms c s. List·Permᴰ (reaches net t c s p) (c .enter p)) (λ t. per .enter t p)
+          (λ t. Permᴰ·refl (rest t (ext t) .enter p)) t;
       turns = λ t e i. each (λ t ms c s. List·Permᴰ (endJoined net t c s e .lanes) (c .turns e)) (λ t. per .turns t e)
           (λ t. Permᴰ·refl (rest t (ext t) .turns e)) t;
-      flight-least = λ t h f i l. each (λ t ms c s. List·Memᴰ f (setsOut net t c s h) → portAt net (hopAt net h .port) .least ≤ c .flight h f)
+      flight-least = λ t h f i l. each (λ t ms c s. List·Memᴰ f (setsOut net t c s h)
+          → portAt net (hopAt net h .port) .least ≤ c .flight h f)
           (λ t j. per .flight-least t h f j l) (λ t j. le-refl (portAt net (hopAt net h .port) .least)) t;
-      flight-greatest = λ t h f i l. each (λ t ms c s. List·Memᴰ f (setsOut net t c s h) → c .flight h f ≤ portAt net (hopAt net h .port) .greatest)
+      flight-greatest = λ t h f i l. each (λ t ms c s. List·Memᴰ f (setsOut net t c s h)
+          → c .flight h f ≤ portAt net (hopAt net h .port) .greatest)
           (λ t j. per .flight-greatest t h f j l) (λ t j. sound .port-delay (hopAt net h .port) (sound .references .hop-port h l)) t;
       receive-least = λ t h f i l. each (λ t ms c s. List·Memᴰ f (delivered net t c s h) → net .receiveLeast ≤ c .receive h f)
           (λ t j. per .receive-least t h f j l) (λ t j. le-refl (net .receiveLeast)) t;

@@ -1,5 +1,5 @@
--- In every permitted run each message is complete at each destination no later than `latest` and no earlier than `soonest` after its release,
--- and no packet waits longer than the queue figure.
+-- In every permitted run each message is complete at each destination no later than `latest` and no earlier than `soonest` after its
+-- release, and no packet waits longer than the queue figure.
 -- Assumes nothing.
 use Prim.Native.Nat.{ℕ, _+_, _*_, _-_, _≤_, _<_}
 use mathlib.Core.List.{List·Memᴰ, List·Memᴰ·head}
@@ -40,7 +40,8 @@ module _ (net : Network) (sound : Sound net) (win : Windows net) (r : Run) (per 
         let d = done-delay net sound r per win h (to .row) (to .is-leaf) .forward (o .at) (o .frame) (o .there) in
         let e = reach-at net sound r per (a .at) m (a .there) .0 in
         let i₁ : arrival r (o .frame .packet .message) ≡ arrival r m = ap (arrival r) (o .message) in
-        let i₂ : queueStation net v (streamAt net (o .frame .packet .message .stream) .sublink) ≡ queueStation net (vlOf net m) (streamAt net (m .stream) .sublink) =
+        let i₂ : queueStation net v (streamAt net (o .frame .packet .message .stream) .sublink)
+        ≡ queueStation net (vlOf net m) (streamAt net (m .stream) .sublink) =
         rw (o .message, to .same-vl) in
         let i₃ : vlAt net v .gap ≡ vlAt net (vlOf net m) .gap = rw (to .same-vl) in
         record {
@@ -67,7 +68,8 @@ module _ (net : Network) (sound : Sound net) (win : Windows net) (r : Run) (per 
         let w = hand-fact net sound r per v win hv (b .at) (q .frame) (b .there) in
         let i₁ : arrival r (q .frame .packet .message) ≡ arrival r m = ap (arrival r) (q .message) in
         let i₂ : q .frame .packet .index * vlAt net v .gap ≡ k * vlAt net (vlOf net m) .gap = rw (q .index, to .same-vl) in
-        let i₃ = mul-le-mul-right {m = packets (streamAt net (m .stream) .least) lm - 1} {n = k} (vlAt net (vlOf net m) .gap) (omega arith) in
+        let i₃ = mul-le-mul-right {m = packets (streamAt net (m .stream) .least) lm - 1} {n = k} (vlAt net (vlOf net m) .gap)
+        (omega arith) in
         let i₄ = ap (λ (z : ℕ). r .choice z .send m) (g .released) in
         omega (arith, q .by-then, b .least, w .0, w .1 .not-before, g .released, g .delay-least)
 

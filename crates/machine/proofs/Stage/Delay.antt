@@ -2,7 +2,8 @@
 -- Assumes nothing.
 use Prim.Native.Nat.{ℕ, zero, suc, _+_, _≤_, _<_}
 use mathlib.Core.Bool.{Bool, true, false, not, cond}
-use mathlib.Core.List.{List, [], _∷_, _++_, List·Memᴰ, List·Memᴰ·append-cases, Memᴰ·append-left, Memᴰ·append-right, Memᴰ·cast, List·Permᴰ, Permᴰ·symm}
+use mathlib.Core.List.{List, [], _∷_, _++_, List·Memᴰ, List·Memᴰ·append-cases, Memᴰ·append-left, Memᴰ·append-right, Memᴰ·cast}
+use mathlib.Core.List.{List·Permᴰ, Permᴰ·symm}
 use mathlib.Core.Logic.{_⊎_, ⊎-elim}
 use mathlib.Core.Path.{_≡_, refl, sym, ap, subst, subst₂, fun-ext}
 use native.Mathlib.Nat.{le-of-eq, le-trans}
@@ -56,13 +57,14 @@ module _ {X : Type 0} where
     weighed = λ w t. le-of-eq (upto-same (λ u. weigh w (g u)) (λ u. weigh w (f u)) (λ u. sym (perm-weigh w (h u))) t);
   }
 
-  pub delay-same : {f g f′ g′ : ℕ → List X} {lo hi : ℕ} → ((t : ℕ) → f t ≡ f′ t) → ((t : ℕ) → g t ≡ g′ t) → Delay f g lo hi → Delay f′ g′ lo hi
+  pub delay-same : {f g f′ g′ : ℕ → List X} {lo hi : ℕ} → ((t : ℕ) → f t ≡ f′ t) → ((t : ℕ) → g t ≡ g′ t) → Delay f g lo hi
+      → Delay f′ g′ lo hi
   delay-same {lo = lo} {hi = hi} h k d = subst₂ (λ (a b : ℕ → List X). Delay a b lo hi) (fun-ext h) (fun-ext k) d
 
   pub looser : {f g : ℕ → List X} {lo hi lo′ hi′ : ℕ} → lo′ ≤ lo → hi ≤ hi′ → Delay f g lo hi → Delay f g lo′ hi′
   looser a b d = record {
     forward = λ t x m. let r = d .forward t x m in record { at = r .at; there = r .there; least = omega arith; most = omega arith };
-    backward = λ t x m. let r = d .backward t x m in record { at = r .at; there = r .there; least = omega (arith, r .least); most = omega (arith, r .most) };
+    backward = λ t x m. let r = d .backward t x m in record { at = r .at; there = r .there; least = omega arith; most = omega arith };
     weighed = d .weighed;
   }
 
@@ -74,7 +76,8 @@ module _ {X : Type 0} where
   later-is : (t : ℕ) (ds : List (Due X)) → later t ds ≡ chosen (λ d. not (leb (d .at) t)) (λ d. d) ds
   later-is t [] = refl
   later-is t (d ∷ ds) = rw (later-is t ds)
-      (elim (leb (d .at) t) as (λ b. let l = chosen (λ c. not (leb (c .at) t)) (λ c. c) ds in cond b [] (d ∷ []) ++ l ≡ cond (not b) (d ∷ []) [] ++ l)
+      (elim (leb (d .at) t) as
+      (λ b. let l = chosen (λ c. not (leb (c .at) t)) (λ c. c) ds in cond b [] (d ∷ []) ++ l ≡ cond (not b) (d ∷ []) [] ++ l)
       [ true ↦ refl | false ↦ refl ])
 
   out-is : (t : ℕ) (delay : X → ℕ) (l : List X) → setOut t delay l ≡ chosen any (λ x. record { item = x; at = t + delay x }) l
@@ -159,7 +162,8 @@ module _ {X : Type 0} where
           let d : Due X = record { item = x; at = t + delay t x } in
           let out : List·Memᴰ d (setOut t (delay t) (ins t)) =
           rw (out-is t (delay t) (ins t)) (is-chosen any (λ y. record { item = y; at = t + delay t y }) (ins t) x m tt) in
-          record { at = d .at; there = goes (delay t x) t d refl (Memᴰ·append-right (pool delay ins t) out); least = omega arith; most = omega arith };
+          let lands-then = goes (delay t x) t d refl (Memᴰ·append-right (pool delay ins t) out) in
+          record { at = d .at; there = lands-then; least = omega arith; most = omega arith };
       backward = λ t x m.
           let f = landed-from t x m in
           let b = h (f .0) x (f .1) in
@@ -169,15 +173,18 @@ module _ {X : Type 0} where
 
 -- a part of what passes through a stage passes through it
 module _ {X Y : Type 0} (p : X → Bool) (f : X → Y) where
-  pub delay-chosen : {ins out : ℕ → List X} {lo hi : ℕ} → Delay ins out lo hi → Delay (λ t. chosen p f (ins t)) (λ t. chosen p f (out t)) lo hi
+  pub delay-chosen : {ins out : ℕ → List X} {lo hi : ℕ} → Delay ins out lo hi
+      → Delay (λ t. chosen p f (ins t)) (λ t. chosen p f (out t)) lo hi
   delay-chosen {ins} {out} d = record {
     forward = λ t y m.
         let r = was-chosen p f (ins t) y m in
         let a = d .forward t (r .from) (r .there) in
-        record { at = a .at; there = Memᴰ·cast (sym (r .is)) (is-chosen p f (out (a .at)) (r .from) (a .there) (r .passes)); least = a .least; most = a .most };
+        let i = is-chosen p f (out (a .at)) (r .from) (a .there) (r .passes) in
+        record { at = a .at; there = Memᴰ·cast (sym (r .is)) i; least = a .least; most = a .most };
     backward = λ t y m.
         let r = was-chosen p f (out t) y m in
         let a = d .backward t (r .from) (r .there) in
-        record { at = a .at; there = Memᴰ·cast (sym (r .is)) (is-chosen p f (ins (a .at)) (r .from) (a .there) (r .passes)); least = a .least; most = a .most };
+        let i = is-chosen p f (ins (a .at)) (r .from) (a .there) (r .passes) in
+        record { at = a .at; there = Memᴰ·cast (sym (r .is)) i; least = a .least; most = a .most };
     weighed = λ w t. simp (chosen-weigh p f w) (d .weighed (λ x. cond (p x) (w (f x)) 0) t);
   }

@@ -1,5 +1,5 @@
--- What a port does to what arrives: each job leaves once, not before its own cost and not after the figure. Its FIFO is a list of jobs with the
--- ticks at which they will be sent whole: what arrives is put at its end, and nothing else changes but that the first of it leaves in its tick.
+-- What a port does to what arrives: each job leaves once, not before its own cost and not after the figure. Its FIFO is a list of jobs with
+-- the ticks at which they will be sent whole: what arrives is put at its end, and nothing else changes but the first leaves in its tick.
 -- Assumes nothing.
 use Prim.Native.Nat.{ℕ, zero, suc, _+_, _≤_, _<_}
 use mathlib.Core.List.{List, [], _∷_, _++_, List·Memᴰ, List·Memᴰ·head, List·Memᴰ·tail, List·Memᴰ·not-nil, List·Memᴰ·eq-of-singleton}
@@ -35,7 +35,8 @@ module _ {Job : Type 0} (cost : Job → ℕ) where
   plan-append e [] r = ap (λ (n : ℕ). plan n r) (sym (add-zero e))
   plan-append e (j ∷ l) r = rw (plan-append (e + cost j) l r, add-assoc e (cost j) (weigh cost l))
 
-  future-append : (t : ℕ) (l r : List Job) (k : Option (Sent Job)) → future t (l ++ r) k ≡ future t l k ++ plan (free cost t k + weigh cost l) r
+  future-append : (t : ℕ) (l r : List Job) (k : Option (Sent Job))
+      → future t (l ++ r) k ≡ future t l k ++ plan (free cost t k + weigh cost l) r
   unfolding future free
   future-append t l r none = plan-append t l r
   future-append t l r (some s) = ap (λ (p : List (Sent Job)). s ∷ p) (plan-append (s .ends) l r)
@@ -61,7 +62,7 @@ module _ {Job : Type 0} (cost : Job → ℕ) where
   plan-has e (i ∷ l) j (List·Memᴰ·head p) = (e + cost i, List·Memᴰ·head (ap (λ (z : Job). record { job = z; ends = e + cost i }) p))
   plan-has e (i ∷ l) j (List·Memᴰ·tail m) = let w = plan-has (e + cost i) l j m in (w .0, List·Memᴰ·tail (w .1))
 
-  -- ---- ends of sending: what will be sent is sent now or later
+  -- ---- ends of port: what will be sent is sent now or later
   sent-or-later : (t : ℕ) (l : List Job) (k : Option (Sent Job)) → Settled cost t l k → (x : Sent Job) → List·Memᴰ x (future t l k)
       → ((x .ends ≡ suc t) × List·Memᴰ (x .job) (ended (suc t) k)) ⊎ List·Memᴰ x (future (suc t) l (still (suc t) k))
   unfolding future plan
@@ -94,7 +95,8 @@ module _ {Job : Type 0} (cost : Job → ℕ) where
   not-yet : (t : ℕ) (l : List Job) (k : Option (Sent Job)) → Settled cost t l k → (x : Sent Job) → List·Memᴰ x (future t l k) → t < x .ends
   unfolding future plan
   not-yet t l none h x m = absurd (List·Memᴰ·not-nil (rw h at m))
-  not-yet t l (some s) h x m = ⊎-elim (λ p. omega (arith, ap (λ (z : Sent Job). z .ends) p)) (λ i. omega (arith, plan-known (s .ends) l x i .1))
+  not-yet t l (some s) h x m = ⊎-elim (λ p. omega (arith, ap (λ (z : Sent Job). z .ends) p))
+      (λ i. omega (arith, plan-known (s .ends) l x i .1))
       (List·Memᴰ·cases-cons m)
 
   late : (t : ℕ) (k : Option (Sent Job)) → t ≤ free cost t (still t k)
@@ -106,7 +108,8 @@ module _ {Job : Type 0} (cost : Job → ℕ) where
   idle-starts t [] = rests (Permᴰ·refl []) refl
   idle-starts t (j ∷ l) = takes (Permᴰ·refl (j ∷ l))
 
-  starts : (t : ℕ) (l : List Job) (k : Option (Sent Job)) → Starts cost t l (still t k) (start cost t l (still t k) .line) (start cost t l (still t k) .link)
+  starts : (t : ℕ) (l : List Job) (k : Option (Sent Job))
+      → Starts cost t l (still t k) (start cost t l (still t k) .line) (start cost t l (still t k) .link)
   starts t l none = idle-starts t l
   starts t l (some s) = by-leb (s .ends) t (λ (k : Option (Sent Job)). Starts cost t l k (start cost t l k .line) (start cost t l k .link))
       (λ m. idle-starts t l) (λ m. goes-on m (Permᴰ·refl l))
@@ -119,9 +122,9 @@ module _ {Job : Type 0} (cost : Job → ℕ) where
     abbrev link : ℕ → Option (Sent Job)
     link t = fifo cost ins t .link
 
-    sending : Sending cost
+    port : Sending cost
     unfolding fifo
-    sending = record { line = line; link = link; ins = ins; line₀ = refl; link₀ = refl; step = λ t. starts t (line t ++ ins t) (link t); pos = pos }
+    port = record { line = line; link = link; ins = ins; none₀ = (refl, refl); step = λ t. starts t (line t ++ ins t) (link t); pos = pos }
 
     -- all that the port will send after tick t: what was left, and what has come
     to-send : ℕ → List (Sent Job)
@@ -138,18 +141,18 @@ module _ {Job : Type 0} (cost : Job → ℕ) where
     to-send-is t = future-start t (line t ++ ins t) (still t (link t)) ∙ future-append t (line t) (ins t) (still t (link t))
 
     settled : (t : ℕ) → Settled cost t (line (suc t)) (link (suc t))
-    unfolding sending
-    settled = Link.settled cost sending
+    unfolding port
+    settled = Link.settled cost port
 
     pub weighed : (w : Job → ℕ) (t : ℕ) → upto (λ u. weigh w (fifo-out cost ins u)) t ≤ upto (λ u. weigh w (ins u)) t
-    unfolding fifo-out sending
-    weighed = Moves.weighed (Link.there cost sending) ins (Link.out cost sending) (Link.none-first cost sending) (Link.moves cost sending)
+    unfolding fifo-out port
+    weighed = Moves.weighed (Link.there cost port) ins (Link.out cost port) (Link.none-first cost port) (Link.moves cost port)
 
     -- ---- with an arrival bound and a figure that covers it
     module _ (env : ℕ → ℕ) (f : ℕ) (bound : (x d : ℕ) → span (λ t. weigh cost (ins t)) x d ≤ env d) (covers : (d : ℕ) → env d ≤ f + d) where
       pub work-within : (t : ℕ) → free cost t (still t (link t)) + weigh cost (line t ++ ins t) ≤ t + f
-      unfolding sending
-      work-within t = omega (arith, Link.e-is cost sending t, Link.e-bound cost sending env f bound covers t)
+      unfolding port
+      work-within t = omega (arith, Link.e-is cost port t, Link.e-bound cost port env f bound covers t)
 
       -- a job came at a tick from which its own cost, and no more than the figure, has passed when it is sent whole
       abbrev Within : ℕ → Sent Job → Type 0

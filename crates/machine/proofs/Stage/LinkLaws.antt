@@ -1,5 +1,5 @@
--- A link and what waits for it, whichever of it the link takes: it is at work while there is work, so all that is there after a tick is sent
--- within a figure that covers what comes; and if what comes in a span below `gap` is at most s of work, at most `gap`, each is sent within s.
+-- A link and what waits for it, whichever of it the link takes: it is at work while there is work, so all that is there after a tick is
+-- sent within a figure that covers what comes; and if what comes in spans below `gap` is at most s of work, s ≤ gap, each is sent within s.
 -- Assumes nothing.
 use Prim.Native.Nat.{ℕ, zero, suc, _+_, _≤_, _<_, max}
 use mathlib.Core.List.{List, [], _∷_, _++_, append-assoc, List·Memᴰ, List·Memᴰ·head, List·Memᴰ·not-nil, List·Memᴰ·eq-of-singleton}
@@ -70,7 +70,8 @@ module _ {X : Type 0} (cost : X → ℕ) where
   no-work [] pos e = refl
   no-work (y ∷ l) pos e = absurd (omega (arith, pos y (List·Memᴰ·head refl)))
 
-  drained : (t : ℕ) (l : List X) (k : Option (Sent X)) → Settled t l k → ((y : X) → List·Memᴰ y l → 0 < cost y) → free t k + weigh cost l ≤ suc t
+  drained : (t : ℕ) (l : List X) (k : Option (Sent X)) → Settled t l k → ((y : X) → List·Memᴰ y l → 0 < cost y)
+      → free t k + weigh cost l ≤ suc t
       → sends (still (suc t) k) ++ l ≡ []
   unfolding free
   drained t l none h pos e = h
@@ -82,13 +83,12 @@ module _ {X : Type 0} (cost : X → ℕ) where
     pub line : ℕ → List X
     pub link : ℕ → Option (Sent X)
     pub ins : ℕ → List X
-    pub line₀ : line zero ≡ []
-    pub link₀ : link zero ≡ none
+    pub none₀ : (line zero ≡ []) × (link zero ≡ none)
     pub step : (t : ℕ) → Starts t (line t ++ ins t) (still t (link t)) (line (suc t)) (link (suc t))
     pub pos : (t : ℕ) (j : X) → List·Memᴰ j (ins t) → 0 < cost j
 
   module _ (st : Sending) where
-    open Sending st using (line, link, ins, line₀, link₀, step, pos)
+    open Sending st using (line, link, ins, none₀, step, pos)
 
     abbrev pub there : ℕ → List X
     there t = sends (link t) ++ line t
@@ -97,7 +97,7 @@ module _ {X : Type 0} (cost : X → ℕ) where
     out t = ended t (link t)
 
     pub none-first : there zero ≡ []
-    none-first = rw (link₀, line₀)
+    none-first = rw (none₀ .1, none₀ .0)
 
     pub moves : (t : ℕ) → List·Permᴰ (there t ++ ins t) (out t ++ there (suc t))
     moves t = rw (
@@ -111,7 +111,9 @@ module _ {X : Type 0} (cost : X → ℕ) where
     costs = Moves.origin there ins out none-first moves (λ t y. 0 < cost y) pos (λ t y h. h)
 
     pub settled : (t : ℕ) → Settled t (line (suc t)) (link (suc t))
-    settled t = settles t (λ x m. ⊎-elim (λ i. costs t x (Memᴰ·append-right (sends (link t)) i)) (pos t x) (List·Memᴰ·append-cases (line t) m)) (step t)
+    settled t = settles t
+        (λ x m. ⊎-elim (λ i. costs t x (Memᴰ·append-right (sends (link t)) i)) (pos t x) (List·Memᴰ·append-cases (line t) m))
+        (step t)
 
     -- by when all that is there after tick t is sent
     unfoldable pub e : ℕ → ℕ
@@ -123,15 +125,17 @@ module _ {X : Type 0} (cost : X → ℕ) where
 
     next : (t : ℕ) → e (suc t) ≤ max (e t) (suc t) + weigh cost (ins (suc t))
     unfolding e
-    next t = omega (arith, e-is (suc t), weigh-append cost (line (suc t)) (ins (suc t)), still-free t (line (suc t)) (link (suc t)) (settled t))
+    next t =
+        let f = still-free t (line (suc t)) (link (suc t)) (settled t) in
+        omega (arith, e-is (suc t), weigh-append cost (line (suc t)) (ins (suc t)))
 
     first : e zero ≤ weigh cost (ins zero)
     unfolding free
     first = omega (
       arith,
       e-is zero,
-      ap (λ (k : Option (Sent X)). free zero (still zero k)) link₀,
-      ap (λ (l : List X). weigh cost (l ++ ins zero)) line₀,
+      ap (λ (k : Option (Sent X)). free zero (still zero k)) (none₀ .1),
+      ap (λ (l : List X). weigh cost (l ++ ins zero)) (none₀ .0),
     )
 
     busy-later : (t : ℕ) (y : X) → List·Memᴰ y (there (suc t)) → t < e t
@@ -143,8 +147,9 @@ module _ {X : Type 0} (cost : X → ℕ) where
         go (some s) l h m = omega arith
 
     -- with an arrival bound and a figure that covers it
-    pub e-bound : (env : ℕ → ℕ) (f : ℕ) → ((x d : ℕ) → span (λ t. weigh cost (ins t)) x d ≤ env d) → ((d : ℕ) → env d ≤ f + d) → (t : ℕ) → e t ≤ t + f
-    e-bound env f bound covers = work-bound e (λ u. weigh cost (ins u)) env f (λ d. Unit {0}) first next (λ x d k. bound x d) tt (λ d k h. tt)
+    pub e-bound : (env : ℕ → ℕ) (f : ℕ) → ((x d : ℕ) → span (λ t. weigh cost (ins t)) x d ≤ env d) → ((d : ℕ) → env d ≤ f + d)
+        → (t : ℕ) → e t ≤ t + f
+    e-bound env f few covers = work-bound e (λ u. weigh cost (ins u)) env f (λ d. Unit {0}) first next (λ x d k. few x d) tt (λ d k h. tt)
         (λ u x. Unit {0}) tt (λ u x b k. tt) (λ u k. tt) (λ d k. covers d)
 
     -- ---- each with the tick at which it comes, and at most s of work in any span below the gap
@@ -184,7 +189,8 @@ module _ {X : Type 0} (cost : X → ℕ) where
       Ran none = Unit {0}
       Ran (some z) = born (z .job) + cost (z .job) ≤ z .ends
 
-      ran-start : (t : ℕ) {l l′ : List X} {k k′ : Option (Sent X)} → ((x : X) → List·Memᴰ x l → born x ≤ t) → Starts t l k l′ k′ → Ran k → Ran k′
+      ran-start : (t : ℕ) {l l′ : List X} {k k′ : Option (Sent X)} → ((x : X) → List·Memᴰ x l → born x ≤ t) → Starts t l k l′ k′
+          → Ran k → Ran k′
       unfolding Ran
       ran-start t h (goes-on m p) r = r
       ran-start t h (takes {x = x} p) r = omega (arith, h x (perm-mem (Permᴰ·symm p) (List·Memᴰ·head refl)))
@@ -200,15 +206,16 @@ module _ {X : Type 0} (cost : X → ℕ) where
 
       ran : (t : ℕ) → Ran (link t)
       unfolding Ran
-      ran zero = rw link₀ tt
+      ran zero = rw (none₀ .1) tt
       ran (suc t) = ran-start t
-          (λ x m. ⊎-elim (λ i. come t x (Memᴰ·append-right (sends (link t)) i)) (λ i. omega (arith, stamped t x i)) (List·Memᴰ·append-cases (line t) m))
+          (λ x m. ⊎-elim (λ i. come t x (Memᴰ·append-right (sends (link t)) i)) (λ i. omega (arith, stamped t x i))
+          (List·Memᴰ·append-cases (line t) m))
           (step t) (ran-still t (link t) (ran t))
 
       -- what is sent whole in tick t came from its own cost to s ticks ago
       pub backward : (t : ℕ) (y : X) → List·Memᴰ y (out t) → (born y + cost y ≤ t) × (t ≤ born y + s)
       unfolding e free Ran
-      backward zero y m = absurd (List·Memᴰ·not-nil (subst (λ (k : Option (Sent X)). List·Memᴰ y (ended zero k)) link₀ m))
+      backward zero y m = absurd (List·Memᴰ·not-nil (subst (λ (k : Option (Sent X)). List·Memᴰ y (ended zero k)) (none₀ .1) m))
       backward (suc t) y m = go (link (suc t)) (settled t) (ran (suc t)) (in-time t y) m
         where
           go : (k : Option (Sent X)) → Settled t (line (suc t)) k → Ran k

@@ -1,5 +1,5 @@
--- A stage that holds what comes until it goes: in each tick what was there and what comes is what goes and what is there after it, in any order.
--- So nothing is made or lost, what goes came, and what cannot be there for ever goes. Assumes nothing.
+-- A stage that holds what comes until it goes: in each tick what was there and what comes is what goes and what is there after it, in any
+-- order. So nothing is made or lost, what goes came, and what cannot be there for ever goes. Assumes nothing.
 use Prim.Native.Nat.{ℕ, zero, suc, _+_, _≤_, _<_}
 use mathlib.Core.List.{List, [], _++_, List·Memᴰ, List·Memᴰ·not-nil, List·Memᴰ·append-cases, Memᴰ·append-left, Memᴰ·append-right}
 use mathlib.Core.List.{List·Permᴰ, Permᴰ·symm}
@@ -32,7 +32,8 @@ module _ {X : Type 0} (there ins out : ℕ → List X) (empty : there zero ≡ [
   was t y m = List·Memᴰ·append-cases (there t) (perm-mem (Permᴰ·symm (moves t)) m)
 
   -- what holds of all that comes, and then on, holds of all that is there, and of all that goes
-  module _ (O : ℕ → X → Type 0) (came : (t : ℕ) (y : X) → List·Memᴰ y (ins t) → O (suc t) y) (on : (t : ℕ) (y : X) → O t y → O (suc t) y) where
+  module _ (O : ℕ → X → Type 0) (came : (t : ℕ) (y : X) → List·Memᴰ y (ins t) → O (suc t) y)
+      (on : (t : ℕ) (y : X) → O t y → O (suc t) y) where
     pub origin : (t : ℕ) (y : X) → List·Memᴰ y (there t) → O t y
     origin zero y m = absurd (List·Memᴰ·not-nil (rw empty at m))
     origin (suc t) y m = ⊎-elim (λ i. on t y (origin t y i)) (came t y) (was t y (Memᴰ·append-right (out t) m))
@@ -41,7 +42,8 @@ module _ {X : Type 0} (there ins out : ℕ → List X) (empty : there zero ≡ [
     out-origin t y m = ⊎-elim (λ i. on t y (origin t y i)) (came t y) (was t y (Memᴰ·append-left (there (suc t)) m))
 
   -- what is not there from some tick on goes
-  pub leaves : (y : X) (by : ℕ) → ((t : ℕ) → List·Memᴰ y (there (suc t)) → t < by) → (t : ℕ) → List·Memᴰ y (ins t) → (u : ℕ) × List·Memᴰ y (out u)
+  pub leaves : (y : X) (by : ℕ) → ((t : ℕ) → List·Memᴰ y (there (suc t)) → t < by) → (t : ℕ) → List·Memᴰ y (ins t)
+      → (u : ℕ) × List·Memᴰ y (out u)
   leaves y by late t m = goes by t (omega arith) (Memᴰ·append-right (there t) m)
     where
       goes : (n t : ℕ) → by ≤ t + n → List·Memᴰ y (there t ++ ins t) → (u : ℕ) × List·Memᴰ y (out u)

@@ -27,9 +27,11 @@ module _ {X : Type 0} (cost : X → ℕ) where
       idle : Starts cost t l none (flat (begin cost t order none .lanes)) (begin cost t order none .link)
       idle = launch-starts t (serve [] order .lanes) (serve [] order .got) (List·Permᴰ·trans p (turned order .same)) (none-waits order)
 
-      go : (k : Option (Sent X)) → Starts cost t l (still t k) (flat (begin cost t order (still t k) .lanes)) (begin cost t order (still t k) .link)
+      go : (k : Option (Sent X))
+          → Starts cost t l (still t k) (flat (begin cost t order (still t k) .lanes)) (begin cost t order (still t k) .link)
       go none = idle
-      go (some s) = by-leb (s .ends) t (λ (k : Option (Sent X)). Starts cost t l k (flat (begin cost t order k .lanes)) (begin cost t order k .link))
+      go (some s) = by-leb (s .ends) t
+          (λ (k : Option (Sent X)). Starts cost t l k (flat (begin cost t order k .lanes)) (begin cost t order k .link))
           (λ m. idle) (λ m. goes-on m p)
 
   launch-lanes : (t : ℕ) (ls : List (Lane X)) (o : Option X) → launch cost t ls o .lanes ≡ ls

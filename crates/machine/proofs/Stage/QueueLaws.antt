@@ -231,10 +231,12 @@ module _ {X : Type 0} (n gap : ℕ) (by from : X → ℕ) where
             let d = within-due t (max (queue gap s₀ new (suc t) .next) t) x (queue gap s₀ new (suc t) .lanes) (run t .ok .good) (le-of-eq (run t .ok .size)) u in
             omega arith
 
-        pub forward : (i : ℕ) → List·Memᴰ i (names (s₀ .lanes)) → (t : ℕ) (x : X) → List·Memᴰ x (new t i) → (u : ℕ) × (handed gap s₀ new u ≡ some x)
+        pub forward : (i : ℕ) → List·Memᴰ i (names (s₀ .lanes)) → (t : ℕ) (x : X) → List·Memᴰ x (new t i)
+            → (u : ℕ) × (handed gap s₀ new u ≡ some x)
         unfolding queue
         forward i h t x m =
-            let g = leaves (λ u. flat (lanes gap s₀ new u)) (brought new (lanes gap s₀ new) (stay gap s₀ new)) (λ u. listed (handed gap s₀ new u))
+            let g = leaves (λ u. flat (lanes gap s₀ new u)) (brought new (lanes gap s₀ new) (stay gap s₀ new))
+            (λ u. listed (handed gap s₀ new u))
             (none-first gap s₀ new empty₀) (moves gap s₀ new) x (by x) (λ u w. omega (arith, still-due u x w)) t
             (is-brought new (lanes gap s₀ new) (stay gap s₀ new) t i x h m) in
             (g .0, is-listed (handed gap s₀ new (g .0)) x (g .1))

@@ -1,5 +1,5 @@
--- What a tick does to the queues of a VL: a packet is handed over, or all stays. So hand-overs are at least one gap apart, what is handed over was
--- brought, and nothing is made or lost. Assumes nothing.
+-- What a tick does to the queues of a VL: a packet is handed over, or all stays. So hand-overs are at least one gap apart, what is handed
+-- over was brought, and nothing is made or lost. Assumes nothing.
 use Prim.Native.Nat.{ℕ, zero, suc, _+_, _≤_, _<_, _/_}
 use mathlib.Core.List.{List, [], _++_, List·Memᴰ, List·Memᴰ·head, List·Memᴰ·not-nil, List·Memᴰ·eq-of-singleton}
 use mathlib.Core.List.{List·Permᴰ, List·Permᴰ·trans, Permᴰ·refl}

@@ -2,7 +2,9 @@
 -- Assumes nothing.
 use Prim.Native.Nat.{ℕ, zero, suc, _+_, _≤_, _<_}
 use mathlib.Core.Bool.{Bool, true, false, cond, not}
-use mathlib.Core.List.{List, [], _∷_, _++_, List·Memᴰ, List·Memᴰ·head, List·Memᴰ·tail, List·Permᴰ, List·Permᴰ·nil, List·Permᴰ·cons, List·Permᴰ·trans, Permᴰ·symm, Permᴰ·middle, Memᴰ·append-left, Memᴰ·append-right, append-nil, append-assoc, List·Memᴰ·not-nil, List·Memᴰ·cases-cons, List·Memᴰ·append-cases}
+use mathlib.Core.List.{List, [], _∷_, _++_, List·Memᴰ, List·Memᴰ·head, List·Memᴰ·tail, List·Permᴰ, List·Permᴰ·nil, List·Permᴰ·cons}
+use mathlib.Core.List.{List·Permᴰ·trans, Permᴰ·symm, Permᴰ·middle, Memᴰ·append-left, Memᴰ·append-right, append-nil, append-assoc}
+use mathlib.Core.List.{List·Memᴰ·not-nil, List·Memᴰ·cases-cons, List·Memᴰ·append-cases}
 use mathlib.Core.Logic.{_⊎_, ⊎-elim, _≢_}
 use mathlib.Core.Path.{_≡_, refl, sym, ap, _∙_, subst}
 use native.Mathlib.Nat.{le-refl, eq-or-lt-of-le, le-of-suc-le-suc}
@@ -79,7 +81,8 @@ gather-one {X} f v none q t (suc n) =
     let i = gather-one f v none q t n in
     let last : gather f (cond (q n) (n ∷ []) []) ≡ cond (q n) (f n) [] =
     elim (q n) as (λ b. gather f (cond b (n ∷ []) []) ≡ cond b (f n) []) [ true ↦ append-nil (f n) | false ↦ refl ] in
-    let all = ap (gather f) (passing-suc q n) ∙ gather-append f (passing q n) (cond (q n) (n ∷ []) []) ∙ ap (λ (l : List X). gather f (passing q n) ++ l) last in
+    let all = ap (gather f) (passing-suc q n) ∙ gather-append f (passing q n) (cond (q n) (n ∷ []) [])
+    ∙ ap (λ (l : List X). gather f (passing q n) ++ l) last in
     let other : n ≢ v → cond (q n) (f n) [] ≡ [] =
     λ e. rw (none n e) (elim (q n) as (λ b. cond {A = List X} b [] [] ≡ []) [ true ↦ refl | false ↦ refl ]) in (
       λ h. all ∙ rw (i .0 (omega arith)) (other (omega arith)),
@@ -96,7 +99,8 @@ same-hop h (f ∷ l) = rw (is-true (eqb h h) (eqb-refl h), same-hop h l)
 
 other-hop : (h i : ℕ) → i ≢ h → (l : List Frame) → ofHop h (chosen any (copy i) l) ≡ []
 other-hop h i e [] = refl
-other-hop h i e (f ∷ l) = by-eqb i h (λ (o : List Frame). o ++ ofHop h (chosen any (copy i) l) ≡ []) (λ k. absurd (e k)) (λ k. other-hop h i e l)
+other-hop h i e (f ∷ l) = by-eqb i h (λ (o : List Frame). o ++ ofHop h (chosen any (copy i) l) ≡ []) (λ k. absurd (e k))
+    (λ k. other-hop h i e l)
 
 pub hops-at : (h : ℕ) (q : ℕ → Bool) (g : ℕ → List Frame) → T (q h) → (n : ℕ) → h < n
     → ofHop h (gather (λ i. chosen any (copy i) (g i)) (passing q n)) ≡ g h

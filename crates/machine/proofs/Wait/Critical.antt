@@ -61,7 +61,8 @@ once : (a x d : ℕ) → (span (λ t. tally (eqb a t)) x d ≡ 0) ⊎ ((span (λ
 unfolding span
 once a x zero = ⊎-elim (λ e. inr (e .1, omega (arith, e .0), omega (arith, e .0))) (λ e. inl (e .1)) (tally-is a x)
 once a x (suc d) = ⊎-elim
-    (λ e. inr (⊎-elim (λ z. (omega (arith, e .1), omega (arith, e .0), omega (arith, e .0))) (λ z. absurd (omega (arith, e .0, z .2))) (once a x d)))
+    (λ e. inr (⊎-elim (λ z. (omega (arith, e .1), omega (arith, e .0), omega (arith, e .0))) (λ z. absurd (omega (arith, e .0, z .2)))
+    (once a x d)))
     (λ e. ⊎-elim (λ z. inl (omega (arith, e .1))) (λ z. inr (omega (arith, e .1, z .0), z .1, omega (arith, z .2))) (once a x d))
     (tally-is a (suc (x + d)))
 

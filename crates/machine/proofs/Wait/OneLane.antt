@@ -55,7 +55,8 @@ module _ {X : Type 0} where
   serves gap t nx (y ∷ l) = (l, refl, refl)
 
   left : (gap t : ℕ) (f : ℕ → List X) (s : Queue X) (l : List X) → s .lanes ≡ lane l ∷ [] → Left (l ++ f 0) (queue-tick gap t f s)
-  left gap t f s l e = subst (λ (ls : List (Lane X)). Left (l ++ f 0) (handOver gap t (record { lanes = add f ls; next = s .next }))) (sym e)
+  left gap t f s l e = subst (λ (ls : List (Lane X)). Left (l ++ f 0) (handOver gap t (record { lanes = add f ls; next = s .next })))
+      (sym e)
       (by-leb (s .next) t (Left (l ++ f 0)) (λ g. serves gap t (s .next) (l ++ f 0)) (λ g. (l ++ f 0, refl, refl)))
 
   module _ (gap : ℕ) (s₀ : Queue X) (new : ℕ → ℕ → List X) (one : s₀ .lanes ≡ lane [] ∷ []) where
@@ -71,7 +72,8 @@ module _ {X : Type 0} where
     -- nothing is brought after tick n, and what is brought in it ends with x
     module _ (x : X) (n : ℕ) (some-come : 0 < length (new n 0)) (by-x : Ends-in x (new n 0)) (no-more : (t : ℕ) → n < t → new t 0 ≡ []) where
       tail : (t : ℕ) → n ≤ t → Ends-in x (at t .0 ++ new t 0)
-      tail zero h = let e : n ≡ zero = omega arith in subst (λ (u : ℕ). Ends-in x (at u .0 ++ new u 0)) e (ends-over x (at n .0) (new n 0) some-come by-x)
+      tail zero h = let e : n ≡ zero = omega arith in subst (λ (u : ℕ). Ends-in x (at u .0 ++ new u 0)) e
+          (ends-over x (at n .0) (new n 0) some-come by-x)
       tail (suc t) h = ⊎-elim
           (λ e. subst (λ (u : ℕ). Ends-in x (at u .0 ++ new u 0)) e (ends-over x (at n .0) (new n 0) some-come by-x))
           (λ l. rw (no-more (suc t) l, append-nil (at (suc t) .0))

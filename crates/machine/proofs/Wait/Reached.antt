@@ -36,7 +36,8 @@ use Rattle.machine.proofs.Network.Arrivals.{test, reach-at, reach-delay
 use Rattle.machine.proofs.Network.Queues.{bounds}
 use Rattle.machine.proofs.Wait.OneLane.{Ends-in, ends-over, ends-one, lane, last-out}
 use Rattle.machine.proofs.Wait.Fill.{Aim, spread, n, rel, late, filled, late-behind, arrives, last-released}
-use Rattle.machine.proofs.Wait.Worth.{r, per, rels-are, send-is, last, reach-time, came, P, worth-gap, listed, P-pos, s₀, c, conserved, goal, few, far, all-gone}
+use Rattle.machine.proofs.Wait.Worth.{r, per, rels-are, send-is, last, reach-time, came, P, worth-gap, listed, P-pos, s₀, c}
+use Rattle.machine.proofs.Wait.Worth.{conserved, goal, few, far, all-gone}
 
 module _ (net : Network) (sound : Sound net) (win : Windows net) (aim : Aim net) where
   open Aim aim using (vl as v, row as hv, one-sub-link as one, stream as s₁, stream-row as on, on-vl as of, span as d)
@@ -71,7 +72,8 @@ module _ (net : Network) (sound : Sound net) (win : Windows net) (aim : Aim net)
       let f = reach-delay net sound run ok .forward u m (o .there) in
       let g : m .released ≡ u = was-message u 0 (run .releases u) m (o .there) .released in
       let a = reach-at net sound run ok (f .at) m (f .there) .0 in
-      let e : f .at ≡ end = omega (arith, a, ap (λ (t : ℕ). t + ch net run t .send m) g, send-is net sound win aim u m, arrives net sound aim u m) in
+      let e : f .at ≡ end =
+      omega (arith, a, ap (λ (t : ℕ). t + ch net run t .send m) g, send-is net sound win aim u m, arrives net sound aim u m) in
       (m, record { there = subst (λ (t : ℕ). List·Memᴰ m (ch net run t .reach)) e (f .there); stream = o .stream })
 
   -- what comes in that tick: others, then those of stream s₁
@@ -221,7 +223,8 @@ module _ (net : Network) (sound : Sound net) (win : Windows net) (aim : Aim net)
       let whole : upto comes (suc t) ≡ all = let e : suc end + (t - end) ≡ suc t = omega arith in ap (upto comes) (sym e) ∙ no-others (t - end) in
       let x = given (handed gap first (news net run v) t) (omega (arith, u .1, u .2)) in
       let is : x .0 ≡ x₁ = last-out gap first (news net run v) one-lane x₁ end (news-end .0) (news-end .1) no-more t (x .0) after-last (x .1)
-      (λ l e. omega (arith, conserved-one (suc t), ap (λ (ls : List (Lane Packet)). length (flat ls)) e, ap length (append-nil l), u .2, whole)) in
+      (λ l e. let n = ap length (append-nil l) in
+      omega (arith, conserved-one (suc t), ap (λ (ls : List (Lane Packet)). length (flat ls)) e, u .2, whole)) in
       let q = bounds net sound run ok v win hv t x₁ (x .1 ∙ ap (λ (z : Packet). some z) is) in
       let sub : streamAt net s₁ .sublink ≡ 0 = omega (arith, sound .references .stream-sub-link s₁ on, ap (λ (z : ℕ). vlAt net z .sublinks) of, one) in
       let fs : queueStation net v (streamAt net (victim .stream) .sublink) ≡ queueStation net v 0 =

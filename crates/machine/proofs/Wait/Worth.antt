@@ -108,7 +108,8 @@ module _ (net : Network) (sound : Sound net) (win : Windows net) (aim : Aim net)
   landed-weight : (t : ℕ) → weigh cost (ch net r t .reach) ≡ weigh cost (lands (λ u. ch net r u .send) (released r) t)
   unfolding lands
   landed-weight t =
-      sym (perm-weigh cost (per (suc t) .reach t (le-refl (suc t)))) ∙ ap (λ (l : List (Due Message)). weigh cost (landed t (l ++ setOut t (ch net r t .send) (released r t)))) (sending-is net r t)
+      sym (perm-weigh cost (per (suc t) .reach t (le-refl (suc t))))
+      ∙ ap (λ (l : List (Due Message)). weigh cost (landed t (l ++ setOut t (ch net r t .send) (released r t)))) (sending-is net r t)
 
   abbrev weight : Release → ℕ
   weight x = length (packetLines (x .size) (vlAt net (streamAt net (x .stream) .vl) .lmax)) * nb
@@ -144,8 +145,10 @@ module _ (net : Network) (sound : Sound net) (win : Windows net) (aim : Aim net)
       ∙ upto-same (λ t. came t * nb) (λ t. weigh cost (lands (λ u. ch net r u .send) (released r) t)) (λ t. came-weight t ∙ landed-weight t) (suc last)
       ∙ all-landed (λ u. ch net r u .send) (released r) cost (suc last) (λ u m i. omega (arith, sent u m i .by-last))
       ∙ upto-same (λ u. weigh cost (released r u)) (λ u. weigh weight (fill net sound aim u)) released-weight (suc last)
-      ∙ all-brought weight (rel net sound aim) (ρ net sound aim) (n net sound aim) (λ s. queueFlow net s .cost) (suc last) (ns net sound aim)
-      (λ s k m i. let w = was-passing (tests net sound aim) (length (net .streams)) s m in omega (arith, released-by net sound aim s k (w .0) i, sound .send))
+      ∙ all-brought weight (rel net sound aim) (ρ net sound aim) (n net sound aim) (λ s. queueFlow net s .cost) (suc last)
+      (ns net sound aim)
+      (λ s k m i. let w = was-passing (tests net sound aim) (length (net .streams)) s m in
+      omega (arith, released-by net sound aim s k (w .0) i, sound .send))
       same-cost
       ∙ sym (brought-is (queueFlow net) d (ns net sound aim))
       ∙ flows-are
@@ -176,7 +179,8 @@ module _ (net : Network) (sound : Sound net) (win : Windows net) (aim : Aim net)
 
       go : (q : ℕ) → q * vlAt net v .gap ≡ queueStation net v 0 + d → 0 < q
       go zero e =
-          absurd (omega (arith, flows-are, brought-is (queueFlow net) d (ns net sound aim), weigh-part (λ s. n net sound aim s * queueFlow net s .cost) s₁ (ns net sound aim) listed, mul-pos (most-pos (queueFlow net s₁) d) c))
+          let part = weigh-part (λ s. n net sound aim s * queueFlow net s .cost) s₁ (ns net sound aim) listed in
+          absurd (omega (arith, flows-are, brought-is (queueFlow net) d (ns net sound aim), mul-pos (most-pos (queueFlow net s₁) d) c))
       go (suc q) e = omega arith
 
   -- ---- hand-overs
@@ -200,7 +204,8 @@ module _ (net : Network) (sound : Sound net) (win : Windows net) (aim : Aim net)
     conserved (net .sendGreatest),
     upto-none comes (net .sendGreatest) (λ t h. weigh-none (λ i. length (news net r v t i)) (names (s₀ .lanes))
         (λ i j. ap length (none-in (news net r v t i) (λ x k.
-        let b = brought-facts net sound r per v t i x k in omega (arith, b .1, reach-time (arrival r (x .message)) (x .message) (b .0 .reached) .0))))),
+        let b = brought-facts net sound r per v t i x k in
+        omega (arith, b .1, reach-time (arrival r (x .message)) (x .message) (b .0 .reached) .0))))),
   )
 
   abbrev pub goal : ℕ
@@ -242,4 +247,6 @@ module _ (net : Network) (sound : Sound net) (win : Windows net) (aim : Aim net)
       omega (arith, l, reach-time (arrival r (x .message)) (x .message) (o .reached) .1, ap (queueStation net v) (in-lane x o))
 
   pub all-gone : P ≤ upto c (suc far)
-  all-gone = omega (arith, conserved (suc far), ap length (none-in (flat (queue (vlAt net v .gap) s₀ (news net r v) (suc far) .lanes)) gone), come)
+  all-gone =
+      let none-left = ap length (none-in (flat (queue (vlAt net v .gap) s₀ (news net r v) (suc far) .lanes)) gone) in
+      omega (arith, conserved (suc far), come)
