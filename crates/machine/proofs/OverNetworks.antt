@@ -5,7 +5,7 @@ use mathlib.Core.Bool.{_&&_}
 use mathlib.Core.Path.{_≡_, refl, sym, ap, _∙_, subst}
 use native.Mathlib.Nat.{mul-le-mul-right}
 use native.Mathlib.Omega.{arith}
-use lib.Dec.{eqb, eqb-refl}
+use lib.Dec.{eqb}
 use lib.ListN.{length}
 use Rattle.base.proofs.TestLaws.{number-is}
 use Rattle.frame.specs.Packets.{packets}
@@ -21,7 +21,7 @@ use Rattle.machine.specs.Machine.{Run, complete, state}
 use Rattle.machine.specs.Permitted.{PermittedBelow}
 use Rattle.machine.specs.Runs.{Complete, Hands, Waited, Reaches, Continued}
 use Rattle.machine.specs.OverNetworks.{SentTo, Reached, Nothing-cut-off, Demand-3-over-networks}
-use Rattle.machine.proofs.Lists.Cases.{both}
+use Rattle.machine.proofs.Lists.Cases.{eq-both}
 use Rattle.machine.proofs.Stage.Select.{is-passing}
 use Rattle.machine.proofs.Network.Told.{good, packets-pos}
 use Rattle.machine.proofs.Network.Windows.{queueStation, queue-is, Windows}
@@ -129,7 +129,8 @@ module _ (net : Network) (sound : Sound net) (busy : Busy net) where
   fits s h =
       let v = streamAt net s .vl in
       let k = streamAt net s .sublink in
-      let listed = is-passing (λ z. eqb (streamAt net z .vl) v && eqb (streamAt net z .sublink) k) (length (net .streams)) s h (both (eqb v v) (eqb k k) (eqb-refl v) (eqb-refl k)) in
+      let listed = is-passing (λ z. eqb (streamAt net z .vl) v && eqb (streamAt net z .sublink) k) (length (net .streams)) s h
+      (eq-both v v k k refl refl) in
       let c : queueFlow net s .cost ≤ queueStation net v k = cost-covered (queueFlow net) s (queueStation net v k) (streamsOn net v k) listed (queue-covers net sound busy v k 0) in
       omega (arith, c, gap-in-cost s h)
 

@@ -4,69 +4,69 @@ use Prim.Native.Nat.{ℕ, zero, suc}
 use mathlib.Core.List.{List, [], List·Permᴰ, Permᴰ·refl}
 use mathlib.Core.Path.{_≡_, refl, ap}
 use Rattle.network.specs.Network.{Network}
+use Rattle.machine.specs.Turn.{Lane}
 use Rattle.machine.specs.Pool.{landed}
-use Rattle.machine.specs.Messages.{Release, Message, Frame, messages}
-use Rattle.machine.specs.Machine.{State, Choice, Run, reaches, endJoined, allSending, step, start, state}
+use Rattle.machine.specs.Messages.{Release, Message, Frame, Copy, messages}
+use Rattle.machine.specs.Machine.{State, Choice, Run, released, reaches, endJoined, allSending, step, start, state}
 use Rattle.machine.specs.Runs.{Planned, RunsAs, Runs}
 
-module _ (net : Network) (releases : ℕ → List Release) (send : ℕ → Message → ℕ) (flight receive : ℕ → ℕ → Frame → ℕ) (firstSub firstVl : ℕ → ℕ)
-    (order : List Message → List Message) where
-  abbrev pub plain : ℕ → Choice
-  plain t = record { send = send t; reach = []; flight = flight t; enter = λ p. []; turns = λ e. []; receive = receive t }
+-- a run in which each tick's choice is made of the state before it
+module _ (net : Network) (base : Run) (choose : ℕ → State → Choice) where
+  pub states : ℕ → State
+  states zero = start net base
+  states (suc t) = step net t (released base t) (choose t (states t)) (states t)
+
+  abbrev pub played : Run
+  played = record { releases = base .releases; firstSub = base .firstSub; firstVl = base .firstVl; choice = λ t. choose t (states t) }
+
+  pub state-is : (t : ℕ) → state net played t ≡ states t
+  unfolding state states
+  state-is zero = refl
+  state-is (suc t) = ap (step net t (released base t) (choose t (states t))) (state-is t)
+
+module _ (net : Network) (releases : ℕ → List Release) (send : ℕ → Message → ℕ) (flight receive : ℕ → ℕ → Frame → ℕ)
+    (firstSub firstVl : ℕ → ℕ) (order : List Message → List Message) where
+  abbrev with-delays : ℕ → List Message → (ℕ → List Copy) → (ℕ → List (Lane Frame)) → Choice
+  with-delays t came enter turns = record { send = send t; reach = came; flight = flight t; enter = enter; turns = turns; receive = receive t }
+
+  abbrev plain : ℕ → Choice
+  plain t = with-delays t [] (λ p. []) (λ e. [])
+
+  abbrev due : ℕ → State → List Message
+  due t s = landed t (allSending net t (messages t 0 (releases t)) (plain t) s)
 
   -- what comes is what is due
-  abbrev pub coming : ℕ → State → Choice
-  coming t s = record {
-    send = send t;
-    reach = order (landed t (allSending net t (messages t 0 (releases t)) (plain t) s));
-    flight = flight t;
-    enter = λ p. reaches net t (plain t) s p;
-    turns = λ e. [];
-    receive = receive t;
-  }
+  abbrev coming : ℕ → State → Choice
+  coming t s = with-delays t (order (due t s)) (reaches net t (plain t) s) (λ e. [])
 
   -- and each link looks at its VLs as they stand
   abbrev pub full : ℕ → State → Choice
-  full t s = record {
-    send = send t;
-    reach = coming t s .reach;
-    flight = flight t;
-    enter = coming t s .enter;
-    turns = λ e. endJoined net t (coming t s) s e .lanes;
-    receive = receive t;
-  }
+  full t s = with-delays t (coming t s .reach) (coming t s .enter) (λ e. endJoined net t (coming t s) s e .lanes)
 
-  auto : ℕ → State
-  auto zero = start net (record { releases = releases; firstSub = firstSub; firstVl = firstVl; choice = plain })
-  auto (suc t) = step net t (messages t 0 (releases t)) (full t (auto t)) (auto t)
+  abbrev base : Run
+  base = record { releases = releases; firstSub = firstSub; firstVl = firstVl; choice = plain }
 
-  auto-run : Run
-  auto-run = record { releases = releases; firstSub = firstSub; firstVl = firstVl; choice = λ t. full t (auto t) }
-
-  state-is : (t : ℕ) → state net auto-run t ≡ auto t
-  unfolding state auto auto-run
-  state-is zero = refl
-  state-is (suc t) = ap (step net t (messages t 0 (releases t)) (full t (auto t))) (state-is t)
+  abbrev at : ℕ → State
+  at = states net base full
 
   module _ (plan : Planned net releases send flight receive) (orders : (l : List Message) → List·Permᴰ l (order l)) where
     pub runs-so : RunsAs net releases send flight receive firstSub firstVl
-    unfolding auto-run
     runs-so = record {
-      run = auto-run;
+      run = played net base full;
       permitted = λ n. record {
         sized = λ t x h. plan .sized t x;
         rule = λ s h x d k. plan .rule s h x d;
         send-least = λ t m h k. plan .send-least t m;
         send-greatest = λ t m h k. plan .send-greatest t m;
-        reach = λ t h. rw (state-is t) (orders (landed t (allSending net t (messages t 0 (releases t)) (plain t) (auto t))));
-        enter = λ t p h. rw (state-is t) (Permᴰ·refl (reaches net t (plain t) (auto t) p));
-        turns = λ t e h. rw (state-is t) (Permᴰ·refl (full t (auto t) .turns e));
+        reach = λ t h. rw (state-is net base full t) (orders (due t (at t)));
+        enter = λ t p h. rw (state-is net base full t) (Permᴰ·refl (reaches net t (plain t) (at t) p));
+        turns = λ t e h. rw (state-is net base full t) (Permᴰ·refl (full t (at t) .turns e));
         flight-least = λ t h f i l k. plan .flight-least t h f l;
         flight-greatest = λ t h f i l k. plan .flight-greatest t h f l;
         receive-least = λ t h f i l k. plan .receive-least t h f;
         receive-greatest = λ t h f i l k. plan .receive-greatest t h f;
       };
-      in-turn = λ n t e h. rw (state-is t);
+      in-turn = λ n t e h. rw (state-is net base full t);
       releases-are = refl;
       first-sub-is = refl;
       first-vl-is = refl;
@@ -76,8 +76,8 @@ module _ (net : Network) (releases : ℕ → List Release) (send : ℕ → Messa
     }
 
     pub reached-in-order : (t : ℕ) → (l : List Message) × (runs-so .run .choice t .reach ≡ order l)
-    unfolding runs-so auto-run
-    reached-in-order t = (landed t (allSending net t (messages t 0 (releases t)) (plain t) (auto t)), refl)
+    unfolding runs-so
+    reached-in-order t = (due t (at t), refl)
 
 pub runs : (net : Network) → Runs net
 runs net releases send flight receive firstSub firstVl plan =

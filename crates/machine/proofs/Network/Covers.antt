@@ -6,10 +6,9 @@ use mathlib.Core.List.{List, [], _∷_, map, List·Memᴰ, List·Memᴰ·head, L
 use mathlib.Core.Path.{_≡_, refl}
 use native.Mathlib.Nat.{mul-le-mul-right}
 use native.Mathlib.Omega.{arith}
-use lib.Dec.{eqb, eqb→eq}
+use lib.Dec.{eqb}
 use lib.ListN.{length}
 use Rattle.base.specs.Tests.{numberOr0}
-use Rattle.base.proofs.Every.{left, right}
 use Rattle.base.proofs.TestLaws.{number-is}
 use Rattle.frame.proofs.FrameLaws.{largest-line-bounds}
 use Rattle.network.specs.Network.{Network, vlAt, streamAt, hopAt}
@@ -25,6 +24,7 @@ use Rattle.station.specs.Facts.{Periodic}
 use Rattle.station.specs.Station.{Flow, most, brought, busyLengthTo, figure}
 use Rattle.station.proofs.Facts.{covers-every-span-to}
 use Rattle.machine.specs.Sound.{Sound, Has, Busy}
+use Rattle.machine.proofs.Lists.Cases.{both-eq}
 use Rattle.machine.proofs.Lists.Sums.{weigh-part}
 use Rattle.machine.proofs.Stage.Flows.{brought-is}
 use Rattle.machine.proofs.Stage.Select.{was-passing}
@@ -59,10 +59,9 @@ module _ (net : Network) (sound : Sound net) (busy : Busy net) where
   pub on-sub-link : (v k s : ℕ) → List·Memᴰ s (streamsOn net v k) → (s < length (net .streams)) × (streamAt net s .vl ≡ v) × (streamAt net s .sublink ≡ k)
   unfolding streamsOn
   on-sub-link v k s m =
-      let a = eqb (streamAt net s .vl) v in
-      let b = eqb (streamAt net s .sublink) k in
       let w = was-passing (λ s. eqb (streamAt net s .vl) v && eqb (streamAt net s .sublink) k) (length (net .streams)) s m in
-      (w .0, eqb→eq (streamAt net s .vl) v (left a b (w .1)), eqb→eq (streamAt net s .sublink) k (right a b (w .1)))
+      let e = both-eq (streamAt net s .vl) v (streamAt net s .sublink) k (w .1) in
+      (w .0, e .0, e .1)
 
   pub queue-covers : (v k d : ℕ) → brought (queueFlows net v k) d ≤ queueStation net v k + d
   unfolding queueFlows queueFlow queueStation queueLength

@@ -4,13 +4,12 @@ use Prim.Native.Nat.{ℕ, suc, _+_, _*_, _/_, _≤_, _<_}
 use mathlib.Core.Bool.{Bool, true, cond, _&&_}
 use mathlib.Core.List.{List, [], _∷_, List·Memᴰ, List·Memᴰ·head, List·Memᴰ·tail, List·Memᴰ·not-nil, List·Memᴰ·eq-of-singleton}
 use mathlib.Core.Option.{Option, none, some}
-use mathlib.Core.Path.{_≡_, refl, sym, ap, _∙_, subst}
+use mathlib.Core.Path.{_≡_, refl, sym, ap, _∙_, subst, fun-ext}
 use native.Mathlib.Nat.{le-of-eq, le-trans, mul-le-mul-right}
 use native.Mathlib.Omega.{arith}
-use lib.Dec.{eqb, T, eqb→eq}
+use lib.Dec.{eqb, T}
 use lib.ListN.{length}
 use Rattle.base.specs.Tabulate.{passing, total}
-use Rattle.base.proofs.Every.{left, right}
 use Rattle.frame.specs.Frame.{leastLine, largestLine}
 use Rattle.frame.specs.Packets.{packets, packetLines}
 use Rattle.frame.proofs.PacketLaws.{packet-lines-between}
@@ -18,7 +17,7 @@ use Rattle.network.specs.Network.{Network, vlAt, streamAt}
 use Rattle.rows.specs.Queues.{queueFlow, queueFlows}
 use Rattle.network.specs.Views.{streamsOn}
 use Rattle.station.specs.Station.{most, brought}
-use Rattle.machine.specs.Sum.{span, count, weigh}
+use Rattle.machine.specs.Sum.{span, count}
 use Rattle.machine.specs.Lists.{chosen}
 use Rattle.machine.specs.Turn.{fromTurn}
 use Rattle.machine.specs.Queue.{Queue}
@@ -26,9 +25,9 @@ use Rattle.machine.specs.Messages.{Message, Packet, Frame, number, vlOf,
 use Rattle.machine.specs.Machine.{Run, start}
 use Rattle.machine.specs.Permitted.{Permitted}
 use Rattle.machine.specs.Sound.{Sound}
-use Rattle.machine.proofs.Lists.Cases.{eq→eqb, by-test, both}
+use Rattle.machine.proofs.Lists.Cases.{both-eq, eq-both, by-test}
 use Rattle.machine.proofs.Stage.Parts.{handed, queue}
-use Rattle.machine.proofs.Lists.Sums.{span-mono, span-same}
+use Rattle.machine.proofs.Lists.Sums.{span-mono}
 use Rattle.machine.proofs.Stage.Lindley.{finish, finish-bound}
 use Rattle.machine.proofs.Stage.Flows.{Covered, works-bound}
 use Rattle.machine.proofs.Lists.Turns.{Empty}
@@ -65,7 +64,7 @@ module _ (net : Network) (sound : Sound net) (r : Run) (per : Permitted net r) w
 
     cost-least : (m : Message) (u : ℕ) → Good net r u m → T (test net v i m) → cost m ≤ queueFlow net (m .stream) .cost
     cost-least m u g h =
-        let e : vlOf net m ≡ v = eqb→eq (vlOf net m) v (left (eqb (vlOf net m) v) (eqb (streamAt net (m .stream) .sublink) i) h) in
+        let e : vlOf net m ≡ v = both-eq (vlOf net m) v (streamAt net (m .stream) .sublink) i h .0 in
         let l = packets-length m (g .stream) (omega (arith, sound .least-size (m .stream) (g .stream), g .least)) in
         let p = packets-mono (vlAt net (vlOf net m) .lmax) (m .size) (streamAt net (m .stream) .size) (sound .lmax-least (vlOf net m) (sound .references .stream-vl (m .stream) (g .stream))) (g .most) in
         let q : length (packetsIn net m) ≤ packets (streamAt net (m .stream) .size) (vlAt net (vlOf net m) .lmax) = omega arith in
@@ -92,7 +91,7 @@ module _ (net : Network) (sound : Sound net) (r : Run) (per : Permitted net r) w
     load-bound : (x d : ℕ) → span load x d ≤ brought (queueFlows net v i) d
     unfolding queueFlows streamsOn
     load-bound x d = le-trans
-        (le-of-eq (span-same load (λ t. weigh cost (msgs t)) (λ t. lane-weight net v i nb (ch net r t .reach)) x d))
+        (le-of-eq (ap (λ (k : ℕ → ℕ). span k x d) (fun-ext (λ t. lane-weight net v i nb (ch net r t .reach)))))
         (works-bound cost (λ m. m .stream) (queueFlow net) ns msgs covered kept x d)
 
     -- the virtual server is done within the figure
@@ -126,16 +125,15 @@ module _ (net : Network) (sound : Sound net) (r : Run) (per : Permitted net r) w
         let m = b .message in
         let a = reach-at net sound r per t m (b .there) in
         let e : x .message ≡ m = was-number m 0 (packetLines (m .size) (vlAt net (vlOf net m) .lmax)) x (b .is) .message in
-        let ev = eqb→eq (vlOf net m) v (left (eqb (vlOf net m) v) (eqb (streamAt net (m .stream) .sublink) i) (b .passes)) in
-        let es = eqb→eq (streamAt net (m .stream) .sublink) i (right (eqb (vlOf net m) v) (eqb (streamAt net (m .stream) .sublink) i) (b .passes)) in (
+        let here = both-eq (vlOf net m) v (streamAt net (m .stream) .sublink) i (b .passes) in (
           record {
             message = subst (λ (z : Message). Good net r (z .released) z) (sym e) (a .1);
-            vl = ap (vlOf net) e ∙ ev;
+            vl = ap (vlOf net) e ∙ here .0;
             is = subst (λ (z : Message). List·Memᴰ x (packetsIn net z)) (sym e) (b .is);
             reached = subst (λ (z : Message). List·Memᴰ z (ch net r (arrival r z) .reach)) (sym e) (subst (λ (u : ℕ). List·Memᴰ m (ch net r u .reach)) (sym (a .0)) (b .there));
           },
           ap (λ (z : Message). arrival r z) e ∙ a .0,
-          ap (λ (z : Message). streamAt net (z .stream) .sublink) e ∙ es,
+          ap (λ (z : Message). streamAt net (z .stream) .sublink) e ∙ here .1,
         )
 
     size₀ : length (s₀ .lanes) ≡ n
@@ -258,7 +256,7 @@ module _ (net : Network) (sound : Sound net) (r : Run) (per : Permitted net r) w
           let lm = vlAt net (vlOf net m) .lmax in
           let b = is-number m 0 (packetLines (m .size) lm) k (omega (arith, length-number m 0 (packetLines (m .size) lm))) in
           let x : Packet = record { message = m; index = 0 + k; bytes = b .0 } in
-          let test-ok : T (test net v i m) = both (eqb (vlOf net m) v) (eqb i i) (eq→eqb (vlOf net m) v e) (lib.Dec.eqb-refl i) in
+          let test-ok : T (test net v i m) = eq-both (vlOf net m) v i i e refl in
           let o = goes i (subst (λ (w : ℕ). i < vlAt net w .sublinks) e (sound .references .stream-sub-link (m .stream) (g .stream))) a x (is-brought net v i (ch net r a .reach) m x j test-ok (b .1)) in
           let f : Frame = record { packet = x; vl = v; born = o .0 } in
           record {

@@ -16,14 +16,14 @@ use Rattle.station.specs.Station.{most}
 use Rattle.machine.specs.Sum.{span, count}
 use Rattle.machine.specs.Pool.{landed}
 use Rattle.machine.specs.Messages.{Release, Message, messages}
-use Rattle.machine.specs.Machine.{State, Choice, Run, released, delivered, setsOut, reaches, endJoined, allSending, step, start}
+use Rattle.machine.specs.Machine.{State, Choice, Run, released, delivered, setsOut, reaches, endJoined, allSending}
 use Rattle.machine.specs.Machine.{state}
 use Rattle.machine.specs.Permitted.{Sized, streamFlow, releasedBy, PermittedBelow}
 use Rattle.machine.specs.Sound.{Sound}
 use Rattle.machine.specs.Runs.{Continued}
 use Rattle.machine.proofs.Lists.Cases.{by-leb, by-leb₂}
 use Rattle.machine.proofs.Stage.Envelope.{div-mono}
-use Rattle.machine.proofs.Network.Auto.{full}
+use Rattle.machine.proofs.Network.Auto.{full, states, played, state-is}
 
 module _ (net : Network) (sound : Sound net) (r : Run) (n : ℕ) (per : PermittedBelow net r n) where
   abbrev rest : ℕ → State → Choice
@@ -36,18 +36,15 @@ module _ (net : Network) (sound : Sound net) (r : Run) (n : ℕ) (per : Permitte
   abbrev choose : ℕ → State → Choice
   choose t s = cond (leb (suc t) n) (r .choice t) (rest t s)
 
-  ext : ℕ → State
-  ext zero = start net r
-  ext (suc t) = step net t (messages t 0 (only t)) (choose t (ext t)) (ext t)
+  abbrev base : Run
+  base = record { releases = only; firstSub = r .firstSub; firstVl = r .firstVl; choice = r .choice }
+
+  abbrev ext : ℕ → State
+  ext = states net base choose
 
   -- the run that goes on
   abbrev on : Run
-  on = record { releases = only; firstSub = r .firstSub; firstVl = r .firstVl; choice = λ t. choose t (ext t) }
-
-  on-state : (t : ℕ) → state net on t ≡ ext t
-  unfolding state ext
-  on-state zero = refl
-  on-state (suc t) = ap (step net t (messages t 0 (only t)) (choose t (ext t))) (on-state t)
+  on = played net base choose
 
   -- in the ticks below n the two are one
   same-releases : (t : ℕ) → t < n → only t ≡ r .releases t
@@ -68,7 +65,7 @@ module _ (net : Network) (sound : Sound net) (r : Run) (n : ℕ) (per : Permitte
   each : (P : (t : ℕ) → List Message → Choice → State → Type 0) → ((t : ℕ) → t < n → P t (released r t) (r .choice t) (state net r t))
       → ((t : ℕ) → P t [] (rest t (ext t)) (ext t)) → (t : ℕ) → P t (released on t) (on .choice t) (state net on t)
   each P f g t = by-leb₂ (suc t) n (λ (l : List Release) (c : Choice). P t (messages t 0 l) c (state net on t))
-      (λ h. rw (same-state t (omega arith)) (f t h)) (λ h. rw (on-state t) (g t))
+      (λ h. rw (same-state t (omega arith)) (f t h)) (λ h. rw (state-is net base choose t) (g t))
 
   module _ (s : ℕ) (hs : s < length (net .streams)) where
     abbrev q : Release → Bool

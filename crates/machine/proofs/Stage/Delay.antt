@@ -17,7 +17,7 @@ use Rattle.machine.proofs.Lists.Cases.{by-leb₂, lt→nleb}
 use Rattle.machine.proofs.Lists.Orders.{perm-weigh, perm-mem, none-in}
 use Rattle.machine.proofs.Stage.Select.{any, was-chosen, is-chosen, chosen-weigh}
 use Rattle.machine.proofs.Stage.Parts.{pool, lands}
-use Rattle.machine.proofs.Lists.Sums.{upto, upto-same, weigh-append}
+use Rattle.machine.proofs.Lists.Sums.{upto, weigh-append}
 
 module _ {X : Type 0} where
   -- x is in f at a tick from lo to hi after t, or before t
@@ -54,7 +54,7 @@ module _ {X : Type 0} where
   reordered {f} {g} h = record {
     forward = λ t x m. record { at = t; there = perm-mem (h t) m; least = omega arith; most = omega arith };
     backward = λ t x m. record { at = t; there = perm-mem (Permᴰ·symm (h t)) m; least = omega arith; most = omega arith };
-    weighed = λ w t. le-of-eq (upto-same (λ u. weigh w (g u)) (λ u. weigh w (f u)) (λ u. sym (perm-weigh w (h u))) t);
+    weighed = λ w t. le-of-eq (ap (λ (k : ℕ → ℕ). upto k t) (fun-ext (λ u. sym (perm-weigh w (h u)))));
   }
 
   pub delay-same : {f g f′ g′ : ℕ → List X} {lo hi : ℕ} → ((t : ℕ) → f t ≡ f′ t) → ((t : ℕ) → g t ≡ g′ t) → Delay f g lo hi

@@ -13,7 +13,7 @@ use Rattle.base.proofs.Every.{left, right, is-true}
 use Rattle.station.specs.Station.{Flow, most}
 use Rattle.machine.specs.Sum.{span, count, tally}
 use Rattle.machine.proofs.Lists.Cases.{both}
-use Rattle.machine.proofs.Lists.Sums.{span-suc, span-mono, span-mono-in, span-zeros, upto, upto-none, weigh-mono, weigh-none}
+use Rattle.machine.proofs.Lists.Sums.{span-mono, span-mono-in, span-zeros, upto, upto-none, weigh-mono, weigh-none}
 use Rattle.machine.proofs.Stage.Select.{any}
 use Rattle.machine.proofs.Stage.Delay.{Delay}
 
@@ -26,8 +26,9 @@ upto-split f a zero = ap (upto f) (ap suc (add-zero a))
 upto-split f a (suc k) = ap (λ (n : ℕ). upto f n + f n) (add-suc a k) ∙ (omega (arith, upto-split f a k))
 
 span-tail : (f : ℕ → ℕ) (a w j : ℕ) → ((t : ℕ) → a + w < t → f t ≡ zero) → span f a (w + j) ≡ span f a w
+unfolding span
 span-tail f a w zero h = ap (span f a) (add-zero w)
-span-tail f a w (suc j) h = ap (span f a) (add-suc w j) ∙ (omega (arith, span-suc f a (w + j), span-tail f a w j h, h (suc (a + (w + j))) (omega arith)))
+span-tail f a w (suc j) h = ap (span f a) (add-suc w j) ∙ (omega (arith, span-tail f a w j h, h (suc (a + (w + j))) (omega arith)))
 
 module _ {X : Type 0} where
   pub count-any : (p : X → Bool) (l : List X) → count p l ≤ count any l

@@ -7,7 +7,6 @@ use native.Mathlib.Decide.{decLe}
 use native.Mathlib.Nat.{le-refl, add-zero, add-suc}
 use native.Mathlib.Omega.{arith}
 use Rattle.machine.specs.Sum.{span}
-use Rattle.machine.proofs.Lists.Sums.{span-zero, span-suc}
 
 -- the tick from which the server has been at work without a pause, and that what is present is done by what came since
 pub record Busy (R : ℕ → Type 0) (P : ℕ → ℕ → Type 0) (e a : ℕ → ℕ) (t : ℕ) : Type 0 where
@@ -30,18 +29,18 @@ module _ (e a env : ℕ → ℕ) (f : ℕ) (R : ℕ → Type 0)
     (p-fresh : (t : ℕ) → e t ≤ suc t → P (suc t) (suc t))
   where
     busy-step : (t : ℕ) → Busy R P e a t → Busy R P e a (suc t)
+    unfolding span
     busy-step t b = dite (decLe (e t) (suc t))
         (λ h. record {
           from = suc t;
           d = 0;
           here = add-zero (suc t);
           short = r-first;
-          work = omega (arith, next t, span-zero a (suc t));
+          work = omega (arith, next t);
           since = p-fresh t h;
         })
         (λ h.
         let i : a (suc (b .from + b .d)) ≡ a (suc t) = ap (λ (n : ℕ). a (suc n)) (b .here) in
-        let g : span a (b .from) (suc (b .d)) ≡ span a (b .from) (b .d) + a (suc t) = span-suc a (b .from) (b .d) ∙ ap (λ (n : ℕ). span a (b .from) (b .d) + n) i in
         record {
           from = b .from;
           d = suc (b .d);
@@ -52,7 +51,8 @@ module _ (e a env : ℕ → ℕ) (f : ℕ) (R : ℕ → Type 0)
         })
 
     pub busy : (t : ℕ) → Busy R P e a t
-    busy zero = record { from = 0; d = 0; here = add-zero 0; short = r-first; work = omega (arith, span-zero a zero); since = p-first }
+    unfolding span
+    busy zero = record { from = 0; d = 0; here = add-zero 0; short = r-first; work = omega arith; since = p-first }
     busy (suc t) = busy-step t (busy t)
 
     pub work-bound : ((d : ℕ) → R d → env d ≤ f + d) → (t : ℕ) → e t ≤ t + f

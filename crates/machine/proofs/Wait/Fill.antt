@@ -9,7 +9,6 @@ use native.Mathlib.Omega.{arith}
 use lib.Dec.{eqb, T, eqb→eq, eqb-refl}
 use lib.ListN.{length}
 use Rattle.base.specs.Tabulate.{passing}
-use Rattle.base.proofs.Every.{left, right}
 use Rattle.network.specs.Network.{Network, vlAt, streamAt, portAt, hopAt}
 use Rattle.rows.specs.Queues.{queueFlow, queueFlows}
 use Rattle.station.specs.Station.{most, brought}
@@ -20,7 +19,7 @@ use Rattle.machine.specs.Permitted.{streamFlow, Sized, releasedBy}
 use Rattle.machine.specs.Sound.{Sound}
 use Rattle.machine.specs.Runs.{Planned, RunsAs}
 use Rattle.machine.proofs.Lists.Orders.{was-gathered, is-gathered}
-use Rattle.machine.proofs.Lists.Cases.{eq→eqb, by-test, both}
+use Rattle.machine.proofs.Lists.Cases.{both-eq, eq-both, by-test}
 use Rattle.machine.proofs.Stage.Flows.{most-pos}
 use Rattle.machine.proofs.Stage.Select.{was-chosen, is-chosen, is-passing, was-passing, behind, behind-perm}
 use Rattle.machine.proofs.Network.Windows.{queueStation}
@@ -103,10 +102,7 @@ module _ (net : Network) (sound : Sound net) (aim : Aim net) where
   not-moved : (s k : ℕ) → suc k < n s → ρ s k ≡ k * p s - j s
   unfolding ρ
   not-moved s k h = by-test (is-last s k) (λ (z : ℕ). z ≡ k * p s - j s)
-      (λ g. let e : s ≡ s₁ = eqb→eq s s₁ (left (eqb s s₁) (eqb (suc k) (n s₁)) g) in
-      let f : suc k ≡ n s₁ = eqb→eq (suc k) (n s₁) (right (eqb s s₁) (eqb (suc k) (n s₁)) g) in
-      let i : n s ≡ n s₁ = ap n e in
-      absurd (omega arith))
+      (λ g. let e = both-eq s s₁ (suc k) (n s₁) g in absurd (omega (arith, e .1, ap n (e .0))))
       (λ g. refl)
 
   -- when it reaches its queue
@@ -187,6 +183,6 @@ module _ (net : Network) (sound : Sound net) (aim : Aim net) where
     pub last-released : List·Memᴰ (rel s₁ K) (fill (d + spread))
     unfolding fill
     last-released = subst (λ (t : ℕ). List·Memᴰ (rel s₁ K) (fill t))
-        (moved s₁ K (both (eqb s₁ s₁) (eqb (suc K) (n s₁)) (eqb-refl s₁) (eq→eqb (suc K) (n s₁) K-is)))
+        (moved s₁ K (eq-both s₁ s₁ (suc K) (n s₁) refl K-is))
         (is-gathered (λ s. chosen (λ k. eqb (ρ s k) (ρ s₁ K)) (rel s) (passing (λ k. true) (n s))) ns s₁ (rel s₁ K) listed
         (is-chosen (λ k. eqb (ρ s₁ k) (ρ s₁ K)) (rel s₁) (passing (λ k. true) (n s₁)) K (is-passing (λ k. true) (n s₁) K (omega (arith, K-is)) tt) (eqb-refl (ρ s₁ K))))

@@ -5,7 +5,7 @@ use mathlib.Core.Bool.{Bool, true, cond, not}
 use mathlib.Core.List.{List, [], _∷_, _++_, List·Memᴰ, List·Memᴰ·head, Memᴰ·append-right, List·Memᴰ·append-cases, append-assoc, append-nil}
 use mathlib.Core.Logic.{⊎-elim, dite}
 use mathlib.Core.Option.{some}
-use mathlib.Core.Path.{_≡_, refl, sym, ap, _∙_, subst}
+use mathlib.Core.Path.{_≡_, refl, sym, ap, _∙_, subst, fun-ext}
 use native.Mathlib.Decide.{decLt}
 use native.Mathlib.Omega.{arith}
 use lib.Dec.{T, eqb→eq}
@@ -24,7 +24,7 @@ use Rattle.machine.specs.Sound.{Sound}
 use Rattle.machine.specs.Runs.{Reaches}
 use Rattle.machine.proofs.Lists.Cases.{not-both, eq→eqb, by-test}
 use Rattle.machine.proofs.Stage.Parts.{queue, handed}
-use Rattle.machine.proofs.Lists.Sums.{upto, upto-same, grows, crosses}
+use Rattle.machine.proofs.Lists.Sums.{upto, grows, crosses}
 use Rattle.machine.proofs.Lists.Orders.{none-in}
 use Rattle.machine.proofs.Lists.Lanes.{flat, names}
 use Rattle.machine.proofs.Stage.QueueSteps.{given}
@@ -202,7 +202,7 @@ module _ (net : Network) (sound : Sound net) (win : Windows net) (aim : Aim net)
 
   conserved-one : (t : ℕ) → upto hits t + length (flat (queue gap first (news net run v) t .lanes)) ≡ upto comes t
   conserved-one t = conserved net sound win aim t
-      ∙ upto-same (λ u. weigh (λ i. length (news net run v u i)) (names (first .lanes))) comes comes-is t
+      ∙ ap (λ (f : ℕ → ℕ). upto f t) (fun-ext comes-is)
 
   no-others : (k : ℕ) → upto comes (suc end + k) ≡ all
   unfolding upto

@@ -3,12 +3,11 @@
 use Prim.Native.Nat.{ℕ, zero, suc, _+_, _*_, _-_, _/_, _≤_, _<_}
 use mathlib.Core.Bool.{_&&_}
 use mathlib.Core.List.{List, _++_, map, List·Memᴰ}
-use mathlib.Core.Path.{_≡_, refl, sym, ap, _∙_, subst}
+use mathlib.Core.Path.{_≡_, refl, sym, ap, _∙_, subst, fun-ext}
 use native.Mathlib.Nat.{le-refl, le-trans, div-lt-iff-lt-mul, mul-pos}
 use native.Mathlib.Omega.{arith}
-use lib.Dec.{eqb, T, eqb→eq}
+use lib.Dec.{eqb, T}
 use lib.ListN.{length}
-use Rattle.base.proofs.Every.{left}
 use Rattle.frame.specs.Packets.{packets, packetLines}
 use Rattle.network.specs.Network.{Network, vlAt, streamAt}
 use Rattle.network.specs.Views.{streamsOn}
@@ -22,9 +21,9 @@ use Rattle.machine.specs.Machine.{Run, released, start}
 use Rattle.machine.specs.Permitted.{Permitted}
 use Rattle.machine.specs.Sound.{Sound}
 use Rattle.machine.proofs.Lists.Orders.{perm-weigh, none-in}
-use Rattle.machine.proofs.Lists.Cases.{eq→eqb, both}
+use Rattle.machine.proofs.Lists.Cases.{both-eq, eq-both}
 use Rattle.machine.proofs.Stage.Parts.{queue, handed, lands}
-use Rattle.machine.proofs.Lists.Sums.{upto, upto-same, upto-mono, grows, weigh-part, weigh-none, upto-none}
+use Rattle.machine.proofs.Lists.Sums.{upto, upto-mono, grows, weigh-part, weigh-none, upto-none}
 use Rattle.machine.proofs.Stage.Flows.{most-pos, brought-is}
 use Rattle.machine.proofs.Lists.Lanes.{flat, names}
 use Rattle.machine.proofs.Stage.QueueSteps.{tally-of, hand-count, origin, queue-kept}
@@ -124,7 +123,7 @@ module _ (net : Network) (sound : Sound net) (win : Windows net) (aim : Aim net)
   same-cost : (s k : ℕ) → List·Memᴰ s (ns net sound aim) → weight (rel net sound aim s k) ≡ queueFlow net s .cost
   same-cost s k m =
       let w = was-passing (tests net sound aim) (length (net .streams)) s m in
-      let e : streamAt net s .vl ≡ v = eqb→eq (streamAt net s .vl) v (left (eqb (streamAt net s .vl) v) (eqb (streamAt net s .sublink) 0) (w .1)) in
+      let e : streamAt net s .vl ≡ v = both-eq (streamAt net s .vl) v (streamAt net s .sublink) 0 (w .1) .0 in
       let hw = sound .references .stream-vl s (w .0) in
       ap (λ (z : ℕ). z * nb) (length-lines (vlAt net (streamAt net s .vl) .lmax) (streamAt net s .size) (sound .lmax-least (streamAt net s .vl) hw) (omega (arith, sound .least-size s (w .0), sound .size s (w .0))))
       ∙ ap (λ (z : ℕ). packets (streamAt net s .size) (vlAt net (streamAt net s .vl) .lmax) * (vlAt net z .sublinks * vlAt net z .gap)) (sym e)
@@ -142,9 +141,9 @@ module _ (net : Network) (sound : Sound net) (win : Windows net) (aim : Aim net)
   unfolding fill
   worth =
       upto-mul came nb (suc last)
-      ∙ upto-same (λ t. came t * nb) (λ t. weigh cost (lands (λ u. ch net r u .send) (released r) t)) (λ t. came-weight t ∙ landed-weight t) (suc last)
+      ∙ ap (λ (f : ℕ → ℕ). upto f (suc last)) (fun-ext (λ t. came-weight t ∙ landed-weight t))
       ∙ all-landed (λ u. ch net r u .send) (released r) cost (suc last) (λ u m i. omega (arith, sent u m i .by-last))
-      ∙ upto-same (λ u. weigh cost (released r u)) (λ u. weigh weight (fill net sound aim u)) released-weight (suc last)
+      ∙ ap (λ (f : ℕ → ℕ). upto f (suc last)) (fun-ext released-weight)
       ∙ all-brought weight (rel net sound aim) (ρ net sound aim) (n net sound aim) (λ s. queueFlow net s .cost) (suc last)
       (ns net sound aim)
       (λ s k m i. let w = was-passing (tests net sound aim) (length (net .streams)) s m in
@@ -162,8 +161,8 @@ module _ (net : Network) (sound : Sound net) (win : Windows net) (aim : Aim net)
   -- there is a stream, so P is not 0
   pub listed : List·Memᴰ s₁ (ns net sound aim)
   listed = is-passing (tests net sound aim) (length (net .streams)) s₁ on
-      (both (eqb (streamAt net s₁ .vl) v) (eqb (streamAt net s₁ .sublink) 0) (eq→eqb (streamAt net s₁ .vl) v of)
-      (eq→eqb (streamAt net s₁ .sublink) 0 (omega (arith, sound .references .stream-sub-link s₁ on, ap (λ (z : ℕ). vlAt net z .sublinks) of, one))))
+      (eq-both (streamAt net s₁ .vl) v (streamAt net s₁ .sublink) 0 of
+      (omega (arith, sound .references .stream-sub-link s₁ on, ap (λ (z : ℕ). vlAt net z .sublinks) of, one)))
 
   pub P-pos : 0 < P
   P-pos = go P worth-gap
