@@ -27,7 +27,7 @@ module _ (net : Network) (base : Run) (choose : ℕ → State → Choice) where
 module _ (net : Network) (releases : ℕ → List Release) (send : ℕ → Message → ℕ) (flight receive : ℕ → ℕ → Frame → ℕ)
     (firstSub firstVl : ℕ → ℕ) (order : List Message → List Message) where
   abbrev with-delays : ℕ → List Message → (ℕ → List Copy) → (ℕ → List (Lane Frame)) → Choice
-  with-delays t came enter turns = record { send = send t; reach = came; flight = flight t; enter = enter; turns = turns; receive = receive t }
+  with-delays t ms cs ls = record { send = send t; reach = ms; flight = flight t; enter = cs; turns = ls; receive = receive t }
 
   abbrev plain : ℕ → Choice
   plain t = with-delays t [] (λ p. []) (λ e. [])

@@ -1,6 +1,6 @@
 -- From the hand-over of a frame to its end on the end system's link: one frame of each VL takes no longer than a gap, so no VL brings a second one while the link is busy, and each frame is sent within 7's sum.
 -- Assumes nothing.
-use Prim.Native.Nat.{ℕ, suc, _*_, _≤_, _<_, max}
+use Prim.Native.Nat.{ℕ, zero, suc, _*_, _≤_, _<_, max}
 use mathlib.Core.Bool.{cond, Bool}
 use mathlib.Core.List.{List, [], _∷_, List·Memᴰ, List·Memᴰ·head, List·Memᴰ·tail, List·Permᴰ}
 use mathlib.Core.Option.{Option}
@@ -17,27 +17,24 @@ use Rattle.network.specs.Network.{Network, vlAt}
 use Rattle.rows.specs.Links.{sendMost, sendLine, sendSum}
 use Rattle.network.specs.Views.{vlsOf}
 use Rattle.machine.specs.Sum.{span, count, weigh}
-use Rattle.machine.specs.Turn.{Lane, add, fromTurn}
-use Rattle.machine.specs.Mux.{Mux}
+use Rattle.machine.specs.Turn.{Lane, fromTurn}
 use Rattle.machine.specs.Fifo.{Sent, ended}
 use Rattle.machine.specs.Messages.{Frame, endCost}
-use Rattle.machine.specs.Machine.{Run, start}
+use Rattle.machine.specs.Machine.{Run, state}
 use Rattle.machine.specs.Permitted.{Permitted}
 use Rattle.machine.specs.Sound.{Sound}
 use Rattle.machine.proofs.Lists.Cases.{eq→eqb, by-test}
-use Rattle.machine.proofs.Stage.Parts.{mux, mux-out}
 use Rattle.machine.proofs.Lists.Sums.{span-mono, span-mul, span-sum, weigh-none, upto-mono}
-use Rattle.machine.proofs.Lists.Turns.{Empty}
 use Rattle.machine.proofs.Lists.Orders.{was-gathered}
-use Rattle.machine.proofs.Lists.Lanes.{names, brought, brought-weigh, is-brought}
+use Rattle.machine.proofs.Lists.Lanes.{flat, flat-empty, names, brought, brought-weigh, is-brought}
 use Rattle.machine.proofs.Stage.Moves.{out-origin, weighed}
 use Rattle.machine.proofs.Stage.LinkLaws.{Sending}
 use Rattle.machine.proofs.Stage.LinkLaws as Link
-use Rattle.machine.proofs.Stage.MuxLaws
-use Rattle.machine.proofs.Stage.Delay.{Delay, delay-same}
+use Rattle.machine.proofs.Stage.MuxLaws.{mux-starts, mux-names}
+use Rattle.machine.proofs.Stage.Delay.{Delay}
 use Rattle.machine.proofs.Stage.Select.{was-chosen, is-chosen, chosen-weigh, is-passing, was-passing, weigh-one, any, part-weigh}
 use Rattle.machine.proofs.Lists.Start.{lanes-empty, lanes-names, turn-mem, turn-weigh}
-use Rattle.machine.proofs.Network.Trace.{hand, looks, end-is, sent, sent-is}
+use Rattle.machine.proofs.Network.Trace.{ch, st, hand, sent}
 use Rattle.machine.proofs.Network.Windows.{Windows}
 use Rattle.machine.proofs.Network.Queues.{Fact, hand-fact, hand-vl, hand-rate}
 
@@ -54,19 +51,8 @@ module _ (net : Network) (sound : Sound net) (r : Run) (per : Permitted net r) (
   abbrev ns : List ℕ
   ns = vlsOf net e
 
-  abbrev s₀ : Mux Frame
-  s₀ = start net r .end e
-
   abbrev turns : List ℕ
   turns = fromTurn (r .firstVl e) ns
-
-  empty₀ : Empty (s₀ .lanes)
-  empty₀ = lanes-empty Frame turns
-
-  named₀ : List·Memᴰ v (names (s₀ .lanes))
-  unfolding vlsOf
-  named₀ = rw (lanes-names Frame turns)
-      (turn-mem (r .firstVl e) v ns (is-passing (λ w. eqb (vlAt net w .system) e) (length (net .vls)) v hv (lib.Dec.eqb-refl e)))
 
   abbrev new : ℕ → ℕ → List Frame
   new t i = hand net r i t
@@ -77,46 +63,46 @@ module _ (net : Network) (sound : Sound net) (r : Run) (per : Permitted net r) (
   stamped : (t i : ℕ) (f : Frame) → List·Memᴰ f (new t i) → (f .born ≡ t) × (0 < endCost net e f)
   stamped t i f k = let w = fact t i f k in (w .0, ticks-some (systemLink net e) (sound .system-speed e (sound .references .vl-system v hv)) (f .packet .bytes) (w .1 .bytes-least))
 
-  -- the order in which the link looks at its VLs: any order of what waits
-  abbrev looked : ℕ → List (Lane Frame)
-  looked = looks net r e
-
-  ordered : (t : ℕ) → List·Permᴰ (add (new t) (mux (endCost net e) s₀ new looked t .lanes)) (looked t)
-  ordered t = subst (λ (s : Mux Frame). List·Permᴰ (add (new t) (s .lanes)) (looked t)) (end-is net r e t)
-      (per (suc t) .turns t e (le-refl (suc t)))
-
   -- the end system's link, and what comes to it
   abbrev cost : Frame → ℕ
   cost = endCost net e
 
   abbrev lanes : ℕ → List (Lane Frame)
-  lanes = MuxLaws.lanes cost s₀ empty₀ new looked ordered
-
-  abbrev ins : ℕ → List Frame
-  ins = brought new lanes (MuxLaws.stay cost s₀ empty₀ new looked ordered)
+  lanes t = st net r t .end e .lanes
 
   abbrev link : ℕ → Option (Sent Frame)
-  link = MuxLaws.link cost s₀ empty₀ new looked ordered
+  link t = st net r t .end e .link
+
+  stay : (t : ℕ) → List·Permᴰ (names (lanes t)) (names (lanes (suc t)))
+  unfolding state
+  stay t = mux-names cost t (new t) (ch net r t .turns e) (st net r t .end e) (per (suc t) .turns t e (le-refl (suc t)))
+
+  abbrev ins : ℕ → List Frame
+  ins = brought new lanes stay
 
   came : (t : ℕ) (f : Frame) → List·Memᴰ f (ins t) → (i : ℕ) × List·Memᴰ f (new t i)
   came t f m = let w = was-gathered (new t) (names (lanes t)) f m in (w .0, w .2)
 
   sending : Sending cost
-  unfolding mux
+  unfolding state
   sending = record {
-    line = MuxLaws.line cost s₀ empty₀ new looked ordered;
+    line = λ t. flat (lanes t);
     link = link;
     ins = ins;
-    none₀ = (MuxLaws.line₀ cost s₀ empty₀ new looked ordered, refl);
-    step = MuxLaws.step cost s₀ empty₀ new looked ordered;
+    none₀ = (flat-empty (lanes zero) (lanes-empty Frame turns), refl);
+    step = λ t. mux-starts cost t (new t) (ch net r t .turns e) (st net r t .end e) (per (suc t) .turns t e (le-refl (suc t)));
     pos = λ t f m. let w = came t f m in stamped t (w .0) f (w .1) .1;
   }
 
+  named₀ : List·Memᴰ v (names (lanes zero))
+  unfolding state vlsOf
+  named₀ = rw (lanes-names Frame turns)
+      (turn-mem (r .firstVl e) v ns (is-passing (λ w. eqb (vlAt net w .system) e) (length (net .vls)) v hv (lib.Dec.eqb-refl e)))
+
   -- what tick t brings weighs what its VLs hand over
   ins-weigh : (w : Frame → ℕ) (t : ℕ) → weigh w (ins t) ≡ weigh (λ i. weigh w (new t i)) ns
-  unfolding mux
-  ins-weigh w t = brought-weigh new lanes (MuxLaws.stay cost s₀ empty₀ new looked ordered) w t
-      ∙ rw (lanes-names Frame turns) (turn-weigh (λ i. weigh w (new t i)) (r .firstVl e) ns)
+  unfolding state
+  ins-weigh w t = brought-weigh new lanes stay w t ∙ rw (lanes-names Frame turns) (turn-weigh (λ i. weigh w (new t i)) (r .firstVl e) ns)
 
   abbrev c : ℕ → ℕ
   c i = sendMost net i
@@ -174,14 +160,14 @@ module _ (net : Network) (sound : Sound net) (r : Run) (per : Permitted net r) (
 
   -- a frame is sent whole from its own least time to one frame of each VL later
   pub end-delay : Delay (hand net r v) (sent net r v) (sendLine net v) (sendSum net e)
-  unfolding mux-out mux sending
+  unfolding sending
   end-delay =
       let born-at : (t : ℕ) (f : Frame) → List·Memᴰ f (ins t) → f .born ≡ t = λ t f m. let i = came t f m in stamped t (i .0) f (i .1) .0 in
       let back = Link.backward cost sending (λ f. f .born) born-at window (sendSum net e) (omega arith) (omega arith) bound in
       let go = Link.forward cost sending (λ f. f .born) born-at window (sendSum net e) (omega arith) (omega arith) bound in
-      delay-same (λ t. refl) (λ t. sent-is net r v t) (record {
+      record {
         forward = λ t f k.
-            let o = go t f (is-brought new lanes (MuxLaws.stay cost s₀ empty₀ new looked ordered) t v f named₀ k) in
+            let o = go t f (is-brought new lanes stay t v f named₀ k) in
             let b = back (o .0) f (o .1) in
             let w = fact t v f k in
             record {
@@ -207,4 +193,4 @@ module _ (net : Network) (sound : Sound net) (r : Run) (per : Permitted net r) (
             simp (chosen-weigh mine (λ f. f) w) (le-trans
             (weighed (Link.there cost sending) ins (Link.out cost sending) (Link.none-first cost sending) (Link.moves cost sending) q t)
             (upto-mono (λ u. weigh q (ins u)) (λ u. weigh w (new u v)) (mine-only w) t));
-      })
+      }

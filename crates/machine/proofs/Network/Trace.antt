@@ -7,13 +7,11 @@ use mathlib.Core.Path.{_≡_, refl, sym, ap}
 use Rattle.network.specs.Network.{Network, vlAt, hopAt}
 use Rattle.network.specs.Views.{leaf}
 use Rattle.machine.specs.Pool.{Due, setOut, landed, later}
-use Rattle.machine.specs.Turn.{Lane}
 use Rattle.machine.specs.Queue.{Queue}
-use Rattle.machine.specs.Mux.{Mux}
 use Rattle.machine.specs.Fifo.{Fifo, ended}
-use Rattle.machine.specs.Messages.{Message, Packet, Frame, Copy, toLane, endCost, portCost, framed, ofVl, ofHop}
+use Rattle.machine.specs.Messages.{Message, Packet, Frame, Copy, toLane, portCost, framed, ofVl, ofHop}
 use Rattle.machine.specs.Machine.{State, Choice, Run, state, start, delivered, setsOut, allFlying, complete, hands, released}
-use Rattle.machine.proofs.Stage.Parts.{queue-tick, mux-tick, fifo-tick, pool, lands, queue, handed, mux, mux-out, fifo, fifo-out}
+use Rattle.machine.proofs.Stage.Parts.{queue-tick, fifo-tick, pool, lands, queue, handed, fifo, fifo-out}
 
 module _ (net : Network) (r : Run) where
   abbrev pub ch : ℕ → Choice
@@ -49,22 +47,10 @@ module _ (net : Network) (r : Run) where
   unfolding handed
   hands-is v t = ap (λ (s : Queue Packet). queue-tick (vlAt net v .gap) t (news v t) s .got) (queue-is v t)
 
-  -- end systems: the order in which the link of end system e looks at its VLs in tick t
-  abbrev pub looks : ℕ → ℕ → List (Lane Frame)
-  looks e t = ch t .turns e
-
-  pub end-is : (e t : ℕ) → st t .end e ≡ mux (endCost net e) (start net r .end e) (λ u v. hand v u) (looks e) t
-  unfolding state mux
-  end-is e zero = refl
-  end-is e (suc t) = ap (λ (s : Mux Frame). mux-tick (endCost net e) t (λ v. hand v t) (looks e t) s) (end-is e t)
-
+  -- end systems
   -- what the end system of VL v sends whole of it in tick t
   abbrev pub sent : ℕ → ℕ → List Frame
   sent v t = ofVl v (ended t (st t .end (vlAt net v .system) .link))
-
-  pub sent-is : (v t : ℕ) → ofVl v (mux-out (endCost net (vlAt net v .system)) (start net r .end (vlAt net v .system)) (λ u w. hand w u) (looks (vlAt net v .system)) t) ≡ sent v t
-  unfolding mux-out
-  sent-is v t = ap (λ (s : Mux Frame). ofVl v (ended t (s .link))) (sym (end-is (vlAt net v .system) t))
 
   -- hops
   abbrev pub source : ℕ → ℕ → List Frame

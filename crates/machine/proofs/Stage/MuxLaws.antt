@@ -1,6 +1,6 @@
 -- An end system's link as a link with what waits for it: what its lanes hold is one list, and the link takes the first that it looks at.
 -- Assumes nothing.
-use Prim.Native.Nat.{ℕ, zero, suc}
+use Prim.Native.Nat.{ℕ}
 use mathlib.Core.List.{List, [], _++_, List·Permᴰ, List·Permᴰ·trans, Permᴰ·refl, Permᴰ·map}
 use mathlib.Core.Option.{Option, none, some}
 use mathlib.Core.Path.{_≡_, refl}
@@ -9,9 +9,8 @@ use Rattle.machine.specs.Turn.{Lane, add, serve}
 use Rattle.machine.specs.Mux.{Mux, launch, begin}
 use Rattle.machine.specs.Fifo.{Sent, still}
 use Rattle.machine.proofs.Lists.Cases.{by-leb}
-use Rattle.machine.proofs.Lists.Turns.{Empty}
-use Rattle.machine.proofs.Lists.Lanes.{listed, flat, names, flat-empty, flat-perm, names-add, flat-add, turned, none-waits}
-use Rattle.machine.proofs.Stage.Parts.{mux}
+use Rattle.machine.proofs.Lists.Lanes.{listed, flat, names, flat-perm, names-add, flat-add, turned, none-waits}
+use Rattle.machine.proofs.Stage.Parts.{mux-tick}
 use Rattle.machine.proofs.Stage.LinkLaws.{Starts, goes-on, takes, rests}
 
 module _ {X : Type 0} (cost : X → ℕ) where
@@ -42,26 +41,12 @@ module _ {X : Type 0} (cost : X → ℕ) where
   begin-names t order none = rw (launch-lanes t (serve [] order .lanes) (serve [] order .got)) (turned order .names-same)
   begin-names t order (some s) = Permᴰ·refl (names order)
 
-  module _ (s₀ : Mux X) (empty₀ : Empty (s₀ .lanes)) (new : ℕ → ℕ → List X) (order : ℕ → List (Lane X))
-      (ordered : (t : ℕ) → List·Permᴰ (add (new t) (mux cost s₀ new order t .lanes)) (order t)) where
-    abbrev pub lanes : ℕ → List (Lane X)
-    lanes t = mux cost s₀ new order t .lanes
+  -- a tick that brings `new`, after which the link looks at the lanes in any order
+  module _ (t : ℕ) (new : ℕ → List X) (order : List (Lane X)) (s : Mux X) (ordered : List·Permᴰ (add new (s .lanes)) order) where
+    pub mux-starts : let after = mux-tick cost t new order s in
+        Starts cost t (flat (s .lanes) ++ gather new (names (s .lanes))) (still t (s .link)) (flat (after .lanes)) (after .link)
+    mux-starts = begin-starts t order (List·Permᴰ·trans (flat-add new (s .lanes)) (flat-perm ordered)) (s .link)
 
-    abbrev pub line : ℕ → List X
-    line t = flat (lanes t)
-
-    abbrev pub link : ℕ → Option (Sent X)
-    link t = mux cost s₀ new order t .link
-
-    pub line₀ : line zero ≡ []
-    unfolding mux
-    line₀ = flat-empty (s₀ .lanes) empty₀
-
-    pub step : (t : ℕ) → Starts cost t (line t ++ gather (new t) (names (lanes t))) (still t (link t)) (line (suc t)) (link (suc t))
-    unfolding mux
-    step t = begin-starts t (order t) (List·Permᴰ·trans (flat-add (new t) (lanes t)) (flat-perm (ordered t))) (link t)
-
-    pub stay : (t : ℕ) → List·Permᴰ (names (lanes t)) (names (lanes (suc t)))
-    unfolding mux
-    stay t = List·Permᴰ·trans (rw (names-add (new t) (lanes t)) at (Permᴰ·map (λ (l : Lane X). l .name) (ordered t)))
-        (begin-names t (order t) (still t (link t)))
+    pub mux-names : List·Permᴰ (names (s .lanes)) (names (mux-tick cost t new order s .lanes))
+    mux-names = List·Permᴰ·trans (rw (names-add new (s .lanes)) at (Permᴰ·map (λ (l : Lane X). l .name) ordered))
+        (begin-names t order (still t (s .link)))
