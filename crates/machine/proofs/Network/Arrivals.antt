@@ -18,19 +18,17 @@ use Rattle.rows.specs.Queues.{queueFlow}
 use Rattle.station.specs.Station.{most}
 use Rattle.machine.specs.Sum.{span, count, weigh, tally}
 use Rattle.machine.specs.Lists.{chosen}
-use Rattle.machine.specs.Pool.{Due, setOut, landed}
 use Rattle.machine.specs.Messages.{Message, Packet, vlOf, packetsIn, toLane}
-use Rattle.machine.specs.Machine.{Run, allSending, released}
+use Rattle.machine.specs.Machine.{Run, released, state}
 use Rattle.machine.specs.Permitted.{streamFlow, releasedBy, Permitted}
 use Rattle.machine.specs.Sound.{Sound}
 use Rattle.machine.proofs.Lists.Orders.{perm-mem}
 use Rattle.machine.proofs.Lists.Cases.{by-test}
-use Rattle.machine.proofs.Stage.Parts.{lands}
-use Rattle.machine.proofs.Stage.Delay.{Delay, _then_, reordered, on-the-way, landed-from, delay-chosen, delay-same, looser}
+use Rattle.machine.proofs.Stage.Delay.{Delay, _then_, reordered, on-the-way, landed-from, delay-chosen, looser}
 use Rattle.machine.proofs.Stage.Envelope.{envelope}
 use Rattle.machine.proofs.Stage.Select.{chosen-any, was-chosen}
 use Rattle.machine.proofs.Network.Told.{arrival, Good, good, weigh-messages}
-use Rattle.machine.proofs.Network.Trace.{ch, st, sending-is}
+use Rattle.machine.proofs.Network.Trace.{ch, st}
 
 -- lists that messages bring to a lane
 module _ (net : Network) (v i : ℕ) where
@@ -76,22 +74,19 @@ unfolding queueFlow
 flow-cost net s = mul-assoc (packets (streamAt net s .size) (vlAt net (streamAt net s .vl) .lmax)) (vlAt net (streamAt net s .vl) .sublinks) (vlAt net (streamAt net s .vl) .gap)
 
 module _ (net : Network) (sound : Sound net) (r : Run) (per : Permitted net r) where
-  pub reach-landed : (t : ℕ) → landed t (allSending net t (released r t) (ch net r t) (st net r t)) ≡ lands (λ u. ch net r u .send) (released r) t
-  unfolding lands
-  reach-landed t = ap (λ (l : List (Due Message)). landed t (l ++ setOut t (ch net r t .send) (released r t))) (sending-is net r t)
-
   -- every message reaches its queue after its own delay
   pub reach-delay : Delay (released r) (λ t. ch net r t .reach) (net .sendLeast) (net .sendGreatest)
+  unfolding state
   reach-delay = looser (omega arith) (omega arith)
-      (delay-same (λ t. refl) (λ t. sym (reach-landed t))
-      (on-the-way (λ u. ch net r u .send) (released r) (net .sendLeast) (net .sendGreatest)
-      (λ t m k. let p = per (suc t) in let l = le-refl (suc t) in (p .send-least t m l k, p .send-greatest t m l k)))
+      (on-the-way (λ u. ch net r u .send) (released r) (λ t. st net r t .sending) refl (λ t. refl) (net .sendLeast) (net .sendGreatest)
+      (λ t m k. let p = per (suc t) in let l = le-refl (suc t) in (p .send-least t m l k, p .send-greatest t m l k))
       then reordered (λ t. per (suc t) .reach t (le-refl (suc t))))
 
   pub reach-at : (t : ℕ) (m : Message) → List·Memᴰ m (ch net r t .reach) → (arrival r m ≡ t) × Good net r (m .released) m
+  unfolding state
   reach-at t m k =
       let l = perm-mem (Permᴰ·symm (per (suc t) .reach t (le-refl (suc t)))) k in
-      let f = landed-from (λ u. ch net r u .send) (released r) t m (subst (List·Memᴰ m) (reach-landed t) l) in
+      let f = landed-from (λ u. ch net r u .send) (released r) (λ t. st net r t .sending) refl (λ t. refl) t m l in
       let g = good net r per (f .0) m (f .1) in
       (omega (arith, g .released, f .2, ap (λ (u : ℕ). ch net r u .send m) (g .released)), subst (λ (u : ℕ). Good net r u m) (sym (g .released)) g)
 

@@ -22,7 +22,7 @@ use Rattle.station.specs.Station.{Flow, most, brought}
 use Rattle.machine.specs.Sum.{span, count, weigh}
 use Rattle.machine.specs.Lists.{chosen}
 use Rattle.machine.specs.Messages.{Copy, copy, portCost}
-use Rattle.machine.specs.Machine.{Run, setsFrom, portArrived}
+use Rattle.machine.specs.Machine.{Run, setsFrom, portArrived, state}
 use Rattle.machine.specs.Permitted.{Permitted}
 use Rattle.machine.specs.Sound.{Sound}
 use Rattle.machine.proofs.Stage.Parts.{fifo-out}
@@ -33,7 +33,7 @@ use Rattle.machine.proofs.Stage.Delay.{Delay, _then_, reordered, on-the
 use Rattle.machine.proofs.Stage.Envelope.{envelope}
 use Rattle.machine.proofs.Stage.Select.{was-chosen, is-chosen, chosen-any, hops-at}
 use Rattle.machine.proofs.Lists.Orders.{perm-mem, was-gathered}
-use Rattle.machine.proofs.Network.Trace.{ch, st, port-is, hand, source, lands-at, lands-is, into, left, left-is, done, done-is}
+use Rattle.machine.proofs.Network.Trace.{ch, st, port-is, hand, source, lands-at, into, left, left-is, done}
 use Rattle.machine.proofs.Network.Windows.{Windows, soon-by, late-by}
 use Rattle.machine.proofs.Network.Queues.{hand-fact, hand-rate}
 use Rattle.machine.proofs.Network.Ends.{end-delay}
@@ -44,11 +44,11 @@ module _ (net : Network) (sound : Sound net) (r : Run) (per : Permitted net r) (
 
   -- from what sets out to a hop to what reaches its port of it
   flight : (h : ℕ) → h < length (net .hops) → Delay (source net r h) (into net r h) (portAt net (port-of h) .least) (portAt net (port-of h) .greatest)
-  unfolding hopsOn
+  unfolding hopsOn state
   flight h hh = looser (omega arith) (omega arith)
-      (delay-same (λ t. refl) (λ t. lands-is net r h t)
-      (on-the-way (λ u. ch net r u .flight h) (source net r h) (portAt net (port-of h) .least) (portAt net (port-of h) .greatest)
-      (λ t f m. let p = per (suc t) in let l = le-refl (suc t) in (p .flight-least t h f l hh m, p .flight-greatest t h f l hh m)))
+      (on-the-way (λ u. ch net r u .flight h) (source net r h) (λ t. st net r t .flying h) refl (λ t. refl)
+      (portAt net (port-of h) .least) (portAt net (port-of h) .greatest)
+      (λ t f m. let p = per (suc t) in let l = le-refl (suc t) in (p .flight-least t h f l hh m, p .flight-greatest t h f l hh m))
       then delay-same (λ t. hops-at h (λ g. eqb (port-of g) (port-of h)) (λ g. lands-at net r g t) (eqb-refl (port-of h)) (length (net .hops)) hh) (λ t. refl)
       (delay-chosen (λ c. eqb (c .hop) h) (λ c. c .frame) (reordered (λ t. per (suc t) .enter t (port-of h) (le-refl (suc t))))))
 
@@ -180,10 +180,12 @@ module _ (net : Network) (sound : Sound net) (r : Run) (per : Permitted net r) (
   -- ---- destinations
   pub done-delay : (h : ℕ) → h < length (net .hops) → leaf net h ≡ true
       → Delay (hand net r (hopAt net h .vl)) (done net r h) (win .soon h + hopLine net h + net .receiveLeast) (win .late h + figureOf net h + net .receiveGreatest)
+  unfolding state
   done-delay h hh k =
       arrive (port-of h) h hh refl
       then hop-delay (port-of h) (arrive (port-of h)) h refl
-      then delay-same (λ t. ap (λ (b : Bool). cond b (left net r h t) []) k) (λ t. done-is net r h t)
-      (on-the-way (λ u. ch net r u .receive h) (λ u. cond (leaf net h) (left net r h u) []) (net .receiveLeast) (net .receiveGreatest)
+      then delay-same (λ t. ap (λ (b : Bool). cond b (left net r h t) []) k) (λ t. refl)
+      (on-the-way (λ u. ch net r u .receive h) (λ u. cond (leaf net h) (left net r h u) []) (λ t. st net r t .receiving h) refl (λ t. refl)
+      (net .receiveLeast) (net .receiveGreatest)
       (λ t f m. let i = subst (λ (b : Bool). List·Memᴰ f (cond b (left net r h t) [])) k m in
       let p = per (suc t) in let l = le-refl (suc t) in (p .receive-least t h f l k i, p .receive-greatest t h f l k i)))

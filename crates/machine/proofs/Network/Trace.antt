@@ -1,17 +1,15 @@
 -- A run of the machine, part by part: each part's state is that of its own machine, fed by the others.
 -- Assumes nothing.
 use Prim.Native.Nat.{ℕ, zero, suc}
-use mathlib.Core.Bool.{cond}
-use mathlib.Core.List.{List, [], _++_}
+use mathlib.Core.List.{List}
 use mathlib.Core.Path.{_≡_, refl, sym, ap}
 use Rattle.network.specs.Network.{Network, vlAt, hopAt}
-use Rattle.network.specs.Views.{leaf}
-use Rattle.machine.specs.Pool.{Due, setOut, landed, later}
+use Rattle.machine.specs.Pool.{landed}
 use Rattle.machine.specs.Queue.{Queue}
 use Rattle.machine.specs.Fifo.{Fifo, ended}
-use Rattle.machine.specs.Messages.{Message, Packet, Frame, Copy, toLane, portCost, framed, ofVl, ofHop}
-use Rattle.machine.specs.Machine.{State, Choice, Run, state, start, delivered, setsOut, allFlying, complete, hands, released}
-use Rattle.machine.proofs.Stage.Parts.{queue-tick, fifo-tick, pool, lands, queue, handed, fifo, fifo-out}
+use Rattle.machine.specs.Messages.{Packet, Frame, Copy, toLane, portCost, framed, ofVl, ofHop}
+use Rattle.machine.specs.Machine.{State, Choice, Run, state, start, delivered, setsOut, allFlying, complete, hands}
+use Rattle.machine.proofs.Stage.Parts.{queue-tick, fifo-tick, queue, handed, fifo, fifo-out}
 
 module _ (net : Network) (r : Run) where
   abbrev pub ch : ℕ → Choice
@@ -19,12 +17,6 @@ module _ (net : Network) (r : Run) where
 
   abbrev pub st : ℕ → State
   st t = state net r t
-
-  -- messages
-  pub sending-is : (t : ℕ) → st t .sending ≡ pool (λ u. ch u .send) (released r) t
-  unfolding state pool
-  sending-is zero = refl
-  sending-is (suc t) = ap (λ (l : List (Due Message)). later t (l ++ setOut t (ch t .send) (released r t))) (sending-is t)
 
   -- VLs
   abbrev pub news : ℕ → ℕ → ℕ → List Packet
@@ -47,7 +39,6 @@ module _ (net : Network) (r : Run) where
   unfolding handed
   hands-is v t = ap (λ (s : Queue Packet). queue-tick (vlAt net v .gap) t (news v t) s .got) (queue-is v t)
 
-  -- end systems
   -- what the end system of VL v sends whole of it in tick t
   abbrev pub sent : ℕ → ℕ → List Frame
   sent v t = ofVl v (ended t (st t .end (vlAt net v .system) .link))
@@ -56,17 +47,8 @@ module _ (net : Network) (r : Run) where
   abbrev pub source : ℕ → ℕ → List Frame
   source h t = setsOut net t (ch t) (st t) h
 
-  pub flying-is : (h t : ℕ) → st t .flying h ≡ pool (λ u. ch u .flight h) (source h) t
-  unfolding state pool
-  flying-is h zero = refl
-  flying-is h (suc t) = ap (λ (l : List (Due Frame)). later t (l ++ setOut t (ch t .flight h) (source h t))) (flying-is h t)
-
   abbrev pub lands-at : ℕ → ℕ → List Frame
   lands-at h t = landed t (allFlying net t (ch t) (st t) h)
-
-  pub lands-is : (h t : ℕ) → lands (λ u. ch u .flight h) (source h) t ≡ lands-at h t
-  unfolding lands
-  lands-is h t = ap (λ (l : List (Due Frame)). landed t (l ++ setOut t (ch t .flight h) (source h t))) (sym (flying-is h t))
 
   -- ports
   pub port-is : (p t : ℕ) → st t .port p ≡ fifo (portCost net p) (λ u. ch u .enter p) t
@@ -85,14 +67,5 @@ module _ (net : Network) (r : Run) where
   left-is h t = ap (λ (s : Fifo Copy). ofHop h (ended t (s .link))) (sym (port-is (hopAt net h .port) t))
 
   -- destinations
-  pub receiving-is : (h t : ℕ) → st t .receiving h ≡ pool (λ u. ch u .receive h) (λ u. cond (leaf net h) (left h u) []) t
-  unfolding state pool
-  receiving-is h zero = refl
-  receiving-is h (suc t) = ap (λ (l : List (Due Frame)). later t (l ++ setOut t (ch t .receive h) (cond (leaf net h) (left h t) []))) (receiving-is h t)
-
   abbrev pub done : ℕ → ℕ → List Frame
   done h t = complete net t (ch t) (st t) h
-
-  pub done-is : (h t : ℕ) → lands (λ u. ch u .receive h) (λ u. cond (leaf net h) (left h u) []) t ≡ done h t
-  unfolding lands
-  done-is h t = ap (λ (l : List (Due Frame)). landed t (l ++ setOut t (ch t .receive h) (cond (leaf net h) (left h t) []))) (sym (receiving-is h t))

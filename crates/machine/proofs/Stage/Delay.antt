@@ -16,7 +16,6 @@ use Rattle.machine.specs.Pool.{Due, setOut, landed, later}
 use Rattle.machine.proofs.Lists.Cases.{by-leb₂, lt→nleb}
 use Rattle.machine.proofs.Lists.Orders.{perm-weigh, perm-mem, none-in}
 use Rattle.machine.proofs.Stage.Select.{any, was-chosen, is-chosen, chosen-weigh}
-use Rattle.machine.proofs.Stage.Parts.{pool, lands}
 use Rattle.machine.proofs.Lists.Sums.{upto, weigh-append}
 
 module _ {X : Type 0} where
@@ -96,9 +95,11 @@ module _ {X : Type 0} where
   out-weigh w t delay [] = refl
   out-weigh w t delay (x ∷ l) = omega (arith, out-weigh w t delay l)
 
-  module _ (delay : ℕ → X → ℕ) (ins : ℕ → List X) where
+  -- a way: those on it before each tick, and those that set out in it
+  module _ (delay : ℕ → X → ℕ) (ins : ℕ → List X) (pool : ℕ → List (Due X)) (none₀ : pool zero ≡ [])
+      (next : (t : ℕ) → pool (suc t) ≡ later t (pool t ++ setOut t (delay t) (ins t))) where
     abbrev all : ℕ → List (Due X)
-    all t = pool delay ins t ++ setOut t (delay t) (ins t)
+    all t = pool t ++ setOut t (delay t) (ins t)
 
     record From (t : ℕ) (d : Due X) : Type 0 where
       at : ℕ
@@ -112,57 +113,57 @@ module _ {X : Type 0} where
         subst (From t) (o .is) (record { at = t; there = o .there; ends = refl; now = omega arith })
 
     from : (t : ℕ) (d : Due X) → List·Memᴰ d (all t) → From t d
-    unfolding pool
-    from zero d m = from-out zero d m
+    from zero d m = from-out zero d (rw none₀ at m)
     from (suc t) d m = ⊎-elim
         (λ i.
-        let o = was-chosen (λ c. not (leb (c .at) t)) (λ c. c) (all t) d (rw (later-is t (all t)) at i) in
+        let o = was-chosen (λ c. not (leb (c .at) t)) (λ c. c) (all t) d (rw (next t, later-is t (all t)) at i) in
         let k = from t (o .from) (o .there) in
         subst (From (suc t)) (o .is) (record { at = k .at; there = k .there; ends = k .ends; now = nleb→lt (o .from .at) t (o .passes) }))
         (λ i. from-out (suc t) d i)
-        (List·Memᴰ·append-cases (pool delay ins (suc t)) m)
+        (List·Memᴰ·append-cases (pool (suc t)) m)
 
-    goes : (n t : ℕ) (d : Due X) → d .at ≡ t + n → List·Memᴰ d (all t) → List·Memᴰ (d .item) (lands delay ins (d .at))
-    unfolding lands pool
+    goes : (n t : ℕ) (d : Due X) → d .at ≡ t + n → List·Memᴰ d (all t) → List·Memᴰ (d .item) (landed (d .at) (all (d .at)))
     goes zero t d e m =
         let e′ : d .at ≡ t = omega arith in
         rw (e′, landed-is t (all t)) (is-chosen (λ c. leb (c .at) t) (λ c. c .item) (all t) d m (le→leb (d .at) t (omega arith)))
     goes (suc n) t d e m =
-        let stays : List·Memᴰ d (later t (all t)) =
-        rw (later-is t (all t)) (is-chosen (λ c. not (leb (c .at) t)) (λ c. c) (all t) d m (lt→nleb (d .at) t (omega arith))) in
+        let stays : List·Memᴰ d (pool (suc t)) =
+        rw (next t, later-is t (all t)) (is-chosen (λ c. not (leb (c .at) t)) (λ c. c) (all t) d m (lt→nleb (d .at) t (omega arith))) in
         goes n (suc t) d (omega arith) (Memᴰ·append-left (setOut (suc t) (delay (suc t)) (ins (suc t))) stays)
 
-    kept : (w : X → ℕ) (t : ℕ) → upto (λ u. weigh w (lands delay ins u)) t + weigh (λ d. w (d .item)) (pool delay ins t) ≡ upto (λ u. weigh w (ins u)) t
-    unfolding upto lands pool total
-    kept w zero = refl
-    kept w (suc t) = omega (arith, kept w t, landed-weigh w t (all t), weigh-append (λ d. w (d .item)) (pool delay ins t) (setOut t (delay t) (ins t)), out-weigh w t (delay t) (ins t))
+    kept : (w : X → ℕ) (t : ℕ) → upto (λ u. weigh w (landed u (all u))) t + weigh (λ d. w (d .item)) (pool t) ≡ upto (λ u. weigh w (ins u)) t
+    unfolding upto total
+    kept w zero = rw none₀ refl
+    kept w (suc t) =
+        let v : Due X → ℕ = λ d. w (d .item) in
+        let o = out-weigh w t (delay t) (ins t) in
+        omega (arith, kept w t, ap (weigh v) (next t), landed-weigh w t (all t), weigh-append v (pool t) (setOut t (delay t) (ins t)))
 
     -- once all have landed, nothing is on its way
-    pub all-landed : (w : X → ℕ) (t : ℕ) → ((u : ℕ) (x : X) → List·Memᴰ x (ins u) → u + delay u x < t) → upto (λ u. weigh w (lands delay ins u)) t ≡ upto (λ u. weigh w (ins u)) t
+    pub all-landed : (w : X → ℕ) (t : ℕ) → ((u : ℕ) (x : X) → List·Memᴰ x (ins u) → u + delay u x < t)
+        → upto (λ u. weigh w (landed u (all u))) t ≡ upto (λ u. weigh w (ins u)) t
     unfolding total
-    all-landed w t h = omega (
-      arith,
-      kept w t,
-      ap (weigh (λ d. w (d .item))) (none-in (pool delay ins t)
-          (λ d m. let f = from t d (Memᴰ·append-left (setOut t (delay t) (ins t)) m) in omega (arith, f .ends, f .now, h (f .at) (d .item) (f .there)))),
-    )
+    all-landed w t h =
+        let none-left = none-in (pool t) (λ d m. let f = from t d (Memᴰ·append-left (setOut t (delay t) (ins t)) m) in
+        omega (arith, f .ends, f .now, h (f .at) (d .item) (f .there))) in
+        omega (arith, kept w t, ap (weigh (λ d. w (d .item))) none-left)
 
-    pub landed-from : (t : ℕ) (x : X) → List·Memᴰ x (lands delay ins t) → (u : ℕ) × List·Memᴰ x (ins u) × (u + delay u x ≡ t)
-    unfolding lands
+    pub landed-from : (t : ℕ) (x : X) → List·Memᴰ x (landed t (all t)) → (u : ℕ) × List·Memᴰ x (ins u) × (u + delay u x ≡ t)
     landed-from t x m =
         let o = was-chosen (λ d. leb (d .at) t) (λ d. d .item) (all t) x (rw (landed-is t (all t)) at m) in
         let f = from t (o .from) (o .there) in
         let e = leb→le (o .from .at) t (o .passes) in
         (f .at, rw (o .is) at (f .there), omega (arith, f .ends, f .now, ap (delay (f .at)) (o .is)))
 
-    pub on-the-way : (lo hi : ℕ) → ((t : ℕ) (x : X) → List·Memᴰ x (ins t) → (lo ≤ delay t x) × (delay t x ≤ hi)) → Delay ins (lands delay ins) lo hi
+    pub on-the-way : (lo hi : ℕ) → ((t : ℕ) (x : X) → List·Memᴰ x (ins t) → (lo ≤ delay t x) × (delay t x ≤ hi))
+        → Delay ins (λ t. landed t (all t)) lo hi
     on-the-way lo hi h = record {
       forward = λ t x m.
           let b = h t x m in
           let d : Due X = record { item = x; at = t + delay t x } in
           let out : List·Memᴰ d (setOut t (delay t) (ins t)) =
           rw (out-is t (delay t) (ins t)) (is-chosen any (λ y. record { item = y; at = t + delay t y }) (ins t) x m tt) in
-          let lands-then = goes (delay t x) t d refl (Memᴰ·append-right (pool delay ins t) out) in
+          let lands-then = goes (delay t x) t d refl (Memᴰ·append-right (pool t) out) in
           record { at = d .at; there = lands-then; least = omega arith; most = omega arith };
       backward = λ t x m.
           let f = landed-from t x m in

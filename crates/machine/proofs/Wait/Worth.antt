@@ -2,7 +2,7 @@
 -- Assumes nothing.
 use Prim.Native.Nat.{ℕ, zero, suc, _+_, _*_, _-_, _/_, _≤_, _<_}
 use mathlib.Core.Bool.{_&&_}
-use mathlib.Core.List.{List, _++_, map, List·Memᴰ}
+use mathlib.Core.List.{List, map, List·Memᴰ}
 use mathlib.Core.Path.{_≡_, refl, sym, ap, _∙_, subst, fun-ext}
 use native.Mathlib.Nat.{le-refl, le-trans, div-lt-iff-lt-mul, mul-pos}
 use native.Mathlib.Omega.{arith}
@@ -14,15 +14,15 @@ use Rattle.network.specs.Views.{streamsOn}
 use Rattle.rows.specs.Queues.{queueFlow, queueFlows}
 use Rattle.station.specs.Station.{brought}
 use Rattle.machine.specs.Sum.{weigh}
-use Rattle.machine.specs.Pool.{Due, setOut, landed}
+use Rattle.machine.specs.Pool.{landed}
 use Rattle.machine.specs.Queue.{Queue}
 use Rattle.machine.specs.Messages.{Release, Message, Packet, packetsIn}
-use Rattle.machine.specs.Machine.{Run, released, start}
+use Rattle.machine.specs.Machine.{Run, released, start, state, allSending}
 use Rattle.machine.specs.Permitted.{Permitted}
 use Rattle.machine.specs.Sound.{Sound}
 use Rattle.machine.proofs.Lists.Orders.{perm-weigh, none-in}
 use Rattle.machine.proofs.Lists.Cases.{both-eq, eq-both}
-use Rattle.machine.proofs.Stage.Parts.{queue, handed, lands}
+use Rattle.machine.proofs.Stage.Parts.{queue, handed}
 use Rattle.machine.proofs.Lists.Sums.{upto, upto-mono, grows, weigh-part, weigh-none, upto-none}
 use Rattle.machine.proofs.Stage.Flows.{most-pos, brought-is}
 use Rattle.machine.proofs.Lists.Lanes.{flat, names}
@@ -31,7 +31,7 @@ use Rattle.machine.proofs.Stage.Delay.{all-landed}
 use Rattle.machine.proofs.Stage.Envelope.{upto-split}
 use Rattle.machine.proofs.Stage.Select.{is-passing, was-passing, chosen-all}
 use Rattle.machine.proofs.Network.Told.{arrival, was-message, weigh-messages, packets-pos, length-lines, length-number}
-use Rattle.machine.proofs.Network.Trace.{ch, news, sending-is}
+use Rattle.machine.proofs.Network.Trace.{ch, st, news}
 use Rattle.machine.proofs.Network.Windows.{queueStation, Windows}
 use Rattle.machine.proofs.Network.Arrivals.{test, lane-weight, flow-cost, reach-at, reach-delay}
 use Rattle.machine.proofs.Network.Queues.{Origin, brought-facts, empty₀, named₀, left-due}
@@ -104,11 +104,8 @@ module _ (net : Network) (sound : Sound net) (win : Windows net) (aim : Aim net)
   upto-mul f c zero = omega arith
   upto-mul f c (suc t) = omega (arith, upto-mul f c t)
 
-  landed-weight : (t : ℕ) → weigh cost (ch net r t .reach) ≡ weigh cost (lands (λ u. ch net r u .send) (released r) t)
-  unfolding lands
-  landed-weight t =
-      sym (perm-weigh cost (per (suc t) .reach t (le-refl (suc t))))
-      ∙ ap (λ (l : List (Due Message)). weigh cost (landed t (l ++ setOut t (ch net r t .send) (released r t)))) (sending-is net r t)
+  landed-weight : (t : ℕ) → weigh cost (ch net r t .reach) ≡ weigh cost (landed t (allSending net t (released r t) (ch net r t) (st net r t)))
+  landed-weight t = sym (perm-weigh cost (per (suc t) .reach t (le-refl (suc t))))
 
   abbrev weight : Release → ℕ
   weight x = length (packetLines (x .size) (vlAt net (streamAt net (x .stream) .vl) .lmax)) * nb
@@ -138,11 +135,11 @@ module _ (net : Network) (sound : Sound net) (win : Windows net) (aim : Aim net)
   flows-are = aim .attains
 
   worth : P * nb ≡ queueStation net v 0 + d
-  unfolding fill
+  unfolding fill state
   worth =
       upto-mul came nb (suc last)
       ∙ ap (λ (f : ℕ → ℕ). upto f (suc last)) (fun-ext (λ t. came-weight t ∙ landed-weight t))
-      ∙ all-landed (λ u. ch net r u .send) (released r) cost (suc last) (λ u m i. omega (arith, sent u m i .by-last))
+      ∙ all-landed (λ u. ch net r u .send) (released r) (λ t. st net r t .sending) refl (λ t. refl) cost (suc last) (λ u m i. omega (arith, sent u m i .by-last))
       ∙ ap (λ (f : ℕ → ℕ). upto f (suc last)) (fun-ext released-weight)
       ∙ all-brought weight (rel net sound aim) (ρ net sound aim) (n net sound aim) (λ s. queueFlow net s .cost) (suc last)
       (ns net sound aim)
