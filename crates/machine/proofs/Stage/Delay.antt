@@ -131,7 +131,8 @@ module _ {X : Type 0} where
         rw (next t, later-is t (all t)) (is-chosen (λ c. not (leb (c .at) t)) (λ c. c) (all t) d m (lt→nleb (d .at) t (omega arith))) in
         goes n (suc t) d (omega arith) (Memᴰ·append-left (setOut (suc t) (delay (suc t)) (ins (suc t))) stays)
 
-    kept : (w : X → ℕ) (t : ℕ) → upto (λ u. weigh w (landed u (all u))) t + weigh (λ d. w (d .item)) (pool t) ≡ upto (λ u. weigh w (ins u)) t
+    kept : (w : X → ℕ) (t : ℕ)
+        → upto (λ u. weigh w (landed u (all u))) t + weigh (λ d. w (d .item)) (pool t) ≡ upto (λ u. weigh w (ins u)) t
     unfolding upto total
     kept w zero = rw none₀ refl
     kept w (suc t) =

@@ -104,7 +104,10 @@ module _ (net : Network) (sound : Sound net) (win : Windows net) (aim : Aim net)
   upto-mul f c zero = omega arith
   upto-mul f c (suc t) = omega (arith, upto-mul f c t)
 
-  landed-weight : (t : ℕ) → weigh cost (ch net r t .reach) ≡ weigh cost (landed t (allSending net t (released r t) (ch net r t) (st net r t)))
+  abbrev lands : ℕ → List Message
+  lands t = landed t (allSending net t (released r t) (ch net r t) (st net r t))
+
+  landed-weight : (t : ℕ) → weigh cost (ch net r t .reach) ≡ weigh cost (lands t)
   landed-weight t = sym (perm-weigh cost (per (suc t) .reach t (le-refl (suc t))))
 
   abbrev weight : Release → ℕ
@@ -139,7 +142,8 @@ module _ (net : Network) (sound : Sound net) (win : Windows net) (aim : Aim net)
   worth =
       upto-mul came nb (suc last)
       ∙ ap (λ (f : ℕ → ℕ). upto f (suc last)) (fun-ext (λ t. came-weight t ∙ landed-weight t))
-      ∙ all-landed (λ u. ch net r u .send) (released r) (λ t. st net r t .sending) refl (λ t. refl) cost (suc last) (λ u m i. omega (arith, sent u m i .by-last))
+      ∙ all-landed (λ u. ch net r u .send) (released r) (λ t. st net r t .sending) refl (λ t. refl) cost (suc last)
+      (λ u m i. omega (arith, sent u m i .by-last))
       ∙ ap (λ (f : ℕ → ℕ). upto f (suc last)) (fun-ext released-weight)
       ∙ all-brought weight (rel net sound aim) (ρ net sound aim) (n net sound aim) (λ s. queueFlow net s .cost) (suc last)
       (ns net sound aim)
