@@ -1,15 +1,13 @@
 -- The machine's own theorem, proved: the statement is in specs/OverNetworks.antt. The bounds are those of the windows, which are the rows' worst and best; the reached wait is the span that attains the queue's station figure, played out.
 -- Assumes nothing.
-use Prim.Native.Nat.{ℕ, _+_, _*_, _≤_, _<_}
+use Prim.Native.Nat.{ℕ, _+_, _≤_, _<_}
 use mathlib.Core.Bool.{_&&_}
 use mathlib.Core.Path.{_≡_, refl, sym, ap, _∙_, subst}
-use native.Mathlib.Nat.{mul-le-mul-right}
 use native.Mathlib.Omega.{arith}
 use lib.Dec.{eqb}
 use lib.ListN.{length}
 use Rattle.base.proofs.TestLaws.{number-is}
-use Rattle.frame.specs.Packets.{packets}
-use Rattle.network.specs.Network.{Network, vlAt, streamAt}
+use Rattle.network.specs.Network.{Network, streamAt}
 use Rattle.network.specs.Views.{streamsOn}
 use Rattle.rows.specs.Queues.{queueFlow, queueFlows, queueLength}
 use Rattle.rows.specs.Rows.{queueOf, worst, best}
@@ -19,15 +17,15 @@ use Rattle.machine.specs.Sound.{Sound, Has, Busy}
 use Rattle.machine.specs.Messages.{Message, Packet}
 use Rattle.machine.specs.Machine.{Run, complete, state}
 use Rattle.machine.specs.Permitted.{PermittedBelow}
-use Rattle.machine.specs.Runs.{Complete, Hands, Waited, Reaches, Continued}
+use Rattle.machine.specs.Runs.{Came, Complete, Hands, Waited, Reaches, Continued}
 use Rattle.machine.specs.OverNetworks.{SentTo, Reached, Nothing-cut-off, Demand-3-over-networks}
 use Rattle.machine.proofs.Lists.Cases.{eq-both}
 use Rattle.machine.proofs.Stage.Select.{is-passing}
-use Rattle.machine.proofs.Network.Told.{good, packets-pos}
+use Rattle.machine.proofs.Network.Told.{good}
 use Rattle.machine.proofs.Network.Windows.{queueStation, queue-is, Windows}
 use Rattle.machine.proofs.Network.Covers.{cost-covered, queue-covers}
 use Rattle.machine.proofs.Network.Routes.{windows, worst-is, best-is}
-use Rattle.machine.proofs.Network.Arrivals.{flow-cost}
+use Rattle.machine.proofs.Network.Arrivals.{gap-in-cost}
 use Rattle.machine.proofs.Network.Auto.{runs}
 use Rattle.machine.proofs.Network.Theorem.{no-later, no-earlier, waits}
 use Rattle.machine.proofs.Network.Stopped.{continued}
@@ -47,6 +45,19 @@ module _ (net : Network) (sound : Sound net) (busy : Busy net) where
         → complete net t (more .run .choice t) (state net (more .run) t) h ≡ complete net t (r .choice t) (state net r t) h
     same t h k = rw (more .same-choice t k, more .same-state t (omega arith))
 
+    -- what has come in the one has come in the other
+    came-too : (a b : Run) {m : Message} {h k u : ℕ}
+        → ((t : ℕ) → t ≤ u → complete net t (a .choice t) (state net a t) h ≡ complete net t (b .choice t) (state net b t) h)
+        → Came net a m h k u → Came net b m h k u
+    came-too a b same c = record {
+      frame = c .frame;
+      at = c .at;
+      there = rw (same (c .at) (c .by-then)) at (c .there);
+      message = c .message;
+      index = c .index;
+      by-then = c .by-then;
+    }
+
     to-more : (t : ℕ) (m : Message) (h : ℕ) → SentTo net r n t m h → SentTo net (more .run) n t m h
     to-more t m h s = record {
       running = s .running;
@@ -63,30 +74,14 @@ module _ (net : Network) (sound : Sound net) (busy : Busy net) where
         → Complete net r m h (t + worst net (m .stream) h)
     later t m h s enough k hk =
         let e = worst-is net sound busy (m .stream) h (row t m h s) (s .row) (s .same-vl) in
-        let c = no-later net sound win (more .run) (more .permitted) n t m h (to-more t m h s) k hk in
-        record {
-          frame = c .frame;
-          at = c .at;
-          there = rw (same (c .at) h (omega (arith, c .by-then))) at (c .there);
-          message = c .message;
-          index = c .index;
-          by-then = omega (arith, c .by-then);
-        }
+        rw e at (came-too (more .run) r (λ u l. same u h (omega arith))
+        (no-later net sound win (more .run) (more .permitted) n t m h (to-more t m h s) k hk))
 
     earlier : (t : ℕ) (m : Message) (h : ℕ) → SentTo net r n t m h → (u : ℕ) → u < n → Complete net r m h u → t + best net (m .stream) h ≤ u
     earlier t m h s u hu c =
         let e = best-is net sound busy (m .stream) h (row t m h s) (s .row) (s .same-vl) in
-        let b = no-earlier net sound win (more .run) (more .permitted) n t m h (to-more t m h s) u (λ k hk.
-        let w = c k hk in
-        record {
-          frame = w .frame;
-          at = w .at;
-          there = rw (same (w .at) h (omega (arith, w .by-then))) (w .there);
-          message = w .message;
-          index = w .index;
-          by-then = w .by-then;
-        }) in
-        omega arith
+        rw e at (no-earlier net sound win (more .run) (more .permitted) n t m h (to-more t m h s) u
+        (λ k hk. came-too r (more .run) (λ t l. sym (same t h (omega arith))) (c k hk)))
 
     longer : (v t : ℕ) (x : Packet) → t < n → Hands net r v t x → Waited net r n x t (queueOf net (x .message .stream))
     longer v t x k e =
@@ -113,17 +108,6 @@ module _ (net : Network) (sound : Sound net) (busy : Busy net) where
       let aim : Aim net = record { vl = v; row = hv; one-sub-link = one; stream = s; stream-row = h; on-vl = refl; span = a .span; attains = at } in
       subst (λ (z : ℕ). Reaches net s z) (queue-is net s) (reached net sound win aim)
 
-  -- one message of the stream is at least a packet, and each costs at least a gap
-  gap-in-cost : (s : ℕ) → s < length (net .streams) → vlAt net (streamAt net s .vl) .gap ≤ queueFlow net s .cost
-  gap-in-cost s h =
-      let v = streamAt net s .vl in
-      let hv = sound .references .stream-vl s h in
-      let p : 1 ≤ packets (streamAt net s .size) (vlAt net v .lmax) = packets-pos (vlAt net v .lmax) (streamAt net s .size) (sound .lmax-least v hv) (omega (arith, sound .least-size s h, sound .size s h)) in
-      let n : 1 ≤ vlAt net v .sublinks = omega (arith, sound .references .stream-sub-link s h) in
-      let a : 1 * vlAt net v .gap ≤ vlAt net v .sublinks * vlAt net v .gap = mul-le-mul-right (vlAt net v .gap) n in
-      let b : 1 * (vlAt net v .sublinks * vlAt net v .gap) ≤ packets (streamAt net s .size) (vlAt net v .lmax) * (vlAt net v .sublinks * vlAt net v .gap) = mul-le-mul-right (vlAt net v .sublinks * vlAt net v .gap) p in
-      omega (arith, flow-cost net s)
-
   fits : Nothing-cut-off net
   unfolding queueStation queueFlows streamsOn
   fits s h =
@@ -132,7 +116,7 @@ module _ (net : Network) (sound : Sound net) (busy : Busy net) where
       let listed = is-passing (λ z. eqb (streamAt net z .vl) v && eqb (streamAt net z .sublink) k) (length (net .streams)) s h
       (eq-both v v k k refl refl) in
       let c : queueFlow net s .cost ≤ queueStation net v k = cost-covered (queueFlow net) s (queueStation net v k) (streamsOn net v k) listed (queue-covers net sound busy v k 0) in
-      omega (arith, c, gap-in-cost s h)
+      omega (arith, c, gap-in-cost net sound s h)
 
 pub demand-3-over-networks : Demand-3-over-networks
 demand-3-over-networks net sound busy = record {

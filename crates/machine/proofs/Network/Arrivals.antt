@@ -6,7 +6,7 @@ use mathlib.Core.List.{List, [], _∷_, _++_, List·Memᴰ, List·Memᴰ·head, 
 use mathlib.Core.List.{Memᴰ·append-left, Memᴰ·append-right, Permᴰ·symm}
 use mathlib.Core.Logic.{⊎-elim}
 use mathlib.Core.Path.{_≡_, refl, sym, ap, subst}
-use native.Mathlib.Nat.{mul-assoc, le-refl}
+use native.Mathlib.Nat.{mul-assoc, mul-le-mul-right, le-refl}
 use native.Mathlib.Omega.{arith}
 use lib.Dec.{eqb, T}
 use lib.ListN.{length, length-append}
@@ -27,7 +27,7 @@ use Rattle.machine.proofs.Lists.Cases.{by-test}
 use Rattle.machine.proofs.Stage.Delay.{Delay, _then_, reordered, on-the-way, landed-from, delay-chosen, looser}
 use Rattle.machine.proofs.Stage.Envelope.{envelope}
 use Rattle.machine.proofs.Stage.Select.{chosen-any, was-chosen}
-use Rattle.machine.proofs.Network.Told.{arrival, Good, good, weigh-messages}
+use Rattle.machine.proofs.Network.Told.{packets-pos, arrival, Good, good, weigh-messages}
 use Rattle.machine.proofs.Network.Trace.{ch, st}
 
 -- lists that messages bring to a lane
@@ -72,6 +72,19 @@ pub flow-cost : (net : Network) (s : ℕ)
     → queueFlow net s .cost ≡ packets (streamAt net s .size) (vlAt net (streamAt net s .vl) .lmax) * (vlAt net (streamAt net s .vl) .sublinks * vlAt net (streamAt net s .vl) .gap)
 unfolding queueFlow
 flow-cost net s = mul-assoc (packets (streamAt net s .size) (vlAt net (streamAt net s .vl) .lmax)) (vlAt net (streamAt net s .vl) .sublinks) (vlAt net (streamAt net s .vl) .gap)
+
+-- one message of a stream is at least a packet, and each costs at least a gap
+pub gap-in-cost : (net : Network) → Sound net → (s : ℕ) → s < length (net .streams)
+    → vlAt net (streamAt net s .vl) .gap ≤ queueFlow net s .cost
+gap-in-cost net sound s h =
+    let v = streamAt net s .vl in
+    let hv = sound .references .stream-vl s h in
+    let size : 0 < streamAt net s .size = omega (arith, sound .least-size s h, sound .size s h) in
+    let p = packets-pos (vlAt net v .lmax) (streamAt net s .size) (sound .lmax-least v hv) size in
+    let n : 1 ≤ vlAt net v .sublinks = omega (arith, sound .references .stream-sub-link s h) in
+    let a = mul-le-mul-right (vlAt net v .gap) n in
+    let b = mul-le-mul-right (vlAt net v .sublinks * vlAt net v .gap) p in
+    omega (arith, flow-cost net s)
 
 module _ (net : Network) (sound : Sound net) (r : Run) (per : Permitted net r) where
   -- every message reaches its queue after its own delay

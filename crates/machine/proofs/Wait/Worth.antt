@@ -30,10 +30,10 @@ use Rattle.machine.proofs.Stage.QueueSteps.{tally-of, hand-count, origi
 use Rattle.machine.proofs.Stage.Delay.{all-landed}
 use Rattle.machine.proofs.Stage.Envelope.{upto-split}
 use Rattle.machine.proofs.Stage.Select.{is-passing, was-passing, chosen-all}
-use Rattle.machine.proofs.Network.Told.{arrival, was-message, weigh-messages, packets-pos, length-lines, length-number}
+use Rattle.machine.proofs.Network.Told.{arrival, was-message, weigh-messages, length-lines, length-number}
 use Rattle.machine.proofs.Network.Trace.{ch, st, news}
 use Rattle.machine.proofs.Network.Windows.{queueStation, Windows}
-use Rattle.machine.proofs.Network.Arrivals.{test, lane-weight, flow-cost, reach-at, reach-delay}
+use Rattle.machine.proofs.Network.Arrivals.{gap-in-cost, test, lane-weight, flow-cost, reach-at, reach-delay}
 use Rattle.machine.proofs.Network.Queues.{Origin, brought-facts, empty₀, named₀, left-due}
 use Rattle.machine.proofs.Wait.Critical.{all-brought}
 use Rattle.machine.proofs.Wait.Fill.{Aim, tests, ns, n, ρ, rel, fill, send, filled, released-by, arrives, known}
@@ -168,18 +168,10 @@ module _ (net : Network) (sound : Sound net) (win : Windows net) (aim : Aim net)
   pub P-pos : 0 < P
   P-pos = go P worth-gap
     where
-      c : 0 < queueFlow net s₁ .cost
-      c = let w = streamAt net s₁ .vl in
-          let e : 1 ≡ vlAt net w .sublinks = sym one ∙ ap (λ (z : ℕ). vlAt net z .sublinks) (sym of) in
-          let hw = sound .references .stream-vl s₁ on in
-          let q : 0 < packets (streamAt net s₁ .size) (vlAt net w .lmax) * (vlAt net w .sublinks * vlAt net w .gap) = mul-pos
-          (packets-pos (vlAt net w .lmax) (streamAt net s₁ .size) (sound .lmax-least w hw) (omega (arith, sound .least-size s₁ on, sound .size s₁ on)))
-          (mul-pos (omega arith) (omega (arith, sound .gap w hw))) in
-          subst (λ (z : ℕ). 0 < z) (sym (flow-cost net s₁)) q
-
       go : (q : ℕ) → q * vlAt net v .gap ≡ queueStation net v 0 + d → 0 < q
       go zero e =
           let part = weigh-part (λ s. n net sound aim s * queueFlow net s .cost) s₁ (ns net sound aim) listed in
+          let c : 0 < queueFlow net s₁ .cost = omega (arith, gap-in-cost net sound s₁ on, ap (λ (z : ℕ). vlAt net z .gap) of, pos) in
           absurd (omega (arith, flows-are, brought-is (queueFlow net) d (ns net sound aim), mul-pos (most-pos (queueFlow net s₁) d) c))
       go (suc q) e = omega arith
 
