@@ -1,7 +1,7 @@
 -- What a reply says of a rule: whether it refused, and the number it gave, 0 where it refused.
 -- Assumes nothing.
 use mathlib.Core.Path.{_≡_, refl, ap, _∙_}
-use mathlib.Core.Bool.{true, false, not}
+use mathlib.Core.Bool.{not}
 use mathlib.Core.Option.{Option, none, some}
 use Prim.Native.Nat.{ℕ}
 use lib.Dec.{eqb}
@@ -9,8 +9,6 @@ use lib.ListN.{getD}
 use Rattle.base.specs.Said.{Said, ruled}
 use Rattle.frame.specs.Reply.{said}
 use Rattle.frame.specs.declared.Reply.{Reply}
-use Rattle.frame.specs.declared.Reply.the-variants.{Value, Refused}
-use Rattle.frame.proofs.ReplyLaws.{gives, refuses}
 use Rattle.base.specs.Tests.{numberOr0, isSome}
 
 ruled-number : (o : Option ℕ) → eqb (ruled o .number) 4 ≡ not (isSome o)
@@ -29,20 +27,3 @@ refusal-of x o e = ap (λ (s : Said). eqb (s .number) 4) e ∙ ruled-number o
 
 pub value-of : (x : Reply) (o : Option ℕ) → said x ≡ ruled o → getD (said x .values) 0 0 ≡ numberOr0 o
 value-of x o e = ap (λ (s : Said). getD (s .values) 0 0) e ∙ ruled-value o
-
--- ---- of each reply
-pub value-not-refused : (v : ℕ) → eqb (said (Value v) .number) 4 ≡ false
-unfolding isSome
-value-not-refused v = refusal-of (Value v) (some v) (gives (some v) v refl)
-
-pub refused-is : eqb (said Refused .number) 4 ≡ true
-unfolding isSome
-refused-is = refusal-of Refused none (refuses none refl)
-
-pub value-is : (v : ℕ) → getD (said (Value v) .values) 0 0 ≡ v
-unfolding numberOr0
-value-is v = value-of (Value v) (some v) (gives (some v) v refl)
-
-pub refused-value : getD (said Refused .values) 0 0 ≡ 0
-unfolding numberOr0
-refused-value = value-of Refused none (refuses none refl)

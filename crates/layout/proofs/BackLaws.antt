@@ -8,9 +8,9 @@ use Prim.Native.Nat.{ℕ, _^_, _<_}
 use native.Mathlib.Decide.{decLt}
 use native.Mathlib.Omega.{arith}
 use lib.Dec.{T, ltb, ltb→lt}
-use lib.ListN.{length, getD}
+use lib.ListN.{length, getD, List·getD-eq-default}
 use lib.Seq.{ext-getD}
-use Rattle.base.proofs.Every.{every, at, left, right}
+use Rattle.base.proofs.Every.{at, left, right}
 use Rattle.bits.specs.Tables.{Fit}
 use Rattle.bits.proofs.RecordLaws.{fit-length}
 use Rattle.bits.proofs.PartLaws.{fit-at, fit-of}
@@ -20,12 +20,12 @@ use Rattle.layout.specs.declared.Shape.{Shape}
 use Rattle.layout.specs.declared.Order.{Order}
 use Rattle.layout.specs.declared.Way.{Way}
 use Rattle.layout.specs.declared.Way.the-variants.{Reading, Writing}
-use Rattle.layout.specs.Layout.{header, stream, port, layoutIn, layout, placeOf, blank, orders, widths}
+use Rattle.layout.specs.Layout.{layoutIn, layout, placeOf, blank, pairs, orders, widths}
 use Rattle.layout.specs.Names.{numberOf, indexIn, placeIn}
 use Rattle.layout.specs.Fields.{convert}
 use Rattle.base.specs.Tests.{numberOr0}
 use Rattle.layout.specs.Rows.{converted, rowFault}
-use Rattle.layout.proofs.LayoutLaws.{sane-at, widths-at, length-widths, no-orders}
+use Rattle.layout.proofs.LayoutLaws.{sane-at, widths-at, length-widths}
 use Rattle.layout.proofs.FieldLaws.{number-was, write-after-read, read-after-write}
 use Rattle.layout.proofs.RowLaws.{length-converted, converted-at}
 use Rattle.layout.proofs.FaultLaws.{Ordered, Faultless, faultless, no-fault}
@@ -55,17 +55,13 @@ numbered : List Shape → List Order → Bool
 numbered ss [] = true
 numbered ss (o ∷ os) = (numberAt ss (placeIn ss (o .lesser)) && numberAt ss (placeIn ss (o .greater))) && numbered ss os
 
-all-numbered : T (every (λ s. numbered (layout s) (orders s)) 6)
-unfolding numbered numberAt isNumber indexIn numberOf layoutIn header stream port orders
-all-numbered = tt
-
 pairs-numbered : (s : ℕ) → T (numbered (layout s) (orders s))
-unfolding numbered
-pairs-numbered s = go (decLt s 6)
+unfolding numbered numberAt isNumber indexIn numberOf layoutIn orders
+pairs-numbered s = go (decLt s (length pairs))
   where
-    go : Dec (s < 6) → T (numbered (layout s) (orders s))
-    go (yes h) = at (λ k. numbered (layout k) (orders k)) 6 all-numbered s h
-    go (no n) = rw (no-orders s (omega arith) (omega arith) (omega arith)) tt
+    go : Dec (s < length pairs) → T (numbered (layout s) (orders s))
+    go (yes h) = at (λ k. numbered (layout k) (orders k)) (length pairs) tt s h
+    go (no n) = rw (List·getD-eq-default pairs [] {n = s} (omega arith)) tt
 
 -- ---- there and back
 module _ (way : Way) (kind : ℕ) (row : List ℕ) (f : Faultless way kind row) where
@@ -135,7 +131,7 @@ module _ (kind : ℕ) (vs : List ℕ) (ok : rowFault Writing kind vs ≡ none) w
   meant-back : (k : ℕ) → k < length (layout kind)
       → (getD (converted Writing (layout kind) vs) k 0 < 2 ^ (getD (layout kind) k blank .width))
       × (convert Reading (getD (layout kind) k blank) (getD (converted Writing (layout kind) vs) k 0) ≡ some (getD vs k 0))
-  meant-back k h = read-after-write (getD (layout kind) k blank) (getD vs k 0) (getD (converted Writing (layout kind) vs) k 0) (sane-at kind k h) (g .fields k h)
+  meant-back k h = read-after-write (getD (layout kind) k blank) (getD vs k 0) (getD (converted Writing (layout kind) vs) k 0) (sane-at kind k) (g .fields k h)
 
   -- what is written fits the fields
   pub written-fits : Fit (widths kind) (converted Writing (layout kind) vs)

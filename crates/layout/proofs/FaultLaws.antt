@@ -8,25 +8,25 @@ use Prim.Native.Nat.{ℕ, zero, suc, _+_, _-_, _≤_, _<_}
 use native.Mathlib.Decide.{decLt}
 use native.Mathlib.Nat.{not-suc-le-zero, le-of-suc-le-suc}
 use native.Mathlib.Omega.{arith}
-use lib.Dec.{leb}
-use lib.ListN.{length, getD, length-append, length-map, List·getD-eq-default, List·getD-append}
+use lib.ListN.{length, getD, length-append, List·getD-eq-default, List·getD-append}
 use lib.Seq.{ext-getD, getD-append-add}
 use borrow.Author.Tests.{not-true, not-false, leb-true, le-leb}
 use Rattle.base.proofs.LeastLaws.{least-is, least-none, least-was, none-was}
 use Rattle.layout.specs.declared.Shape.{Shape}
 use Rattle.layout.specs.declared.Order.{Order}
 use Rattle.layout.specs.declared.Way.{Way}
-use Rattle.layout.specs.Layout.{layout, placeOf, blank, orders}
+use Rattle.layout.specs.Layout.{layout, blank, orders}
 use Rattle.layout.specs.Names.{placeIn}
 use Rattle.layout.specs.Fields.{convert}
 use Rattle.base.specs.Tests.{numberOr0, isSome, firstFailing}
 use Rattle.layout.specs.Contracts.{wide, orderFault}
 use Rattle.layout.specs.Rows.{converted, fieldTests, orderTests, rowFaultIn, rowFault}
 use Rattle.layout.proofs.RowLaws.{converted-at, wide-at}
+use Rattle.layout.proofs.ToldLaws.{some-told}
 
 -- ---- the first test that fails
 -- each test passes; there is none past the end
-abbrev Pass : List Bool → Type 0
+abbrev pub Pass : List Bool → Type 0
 Pass ts = (i : ℕ) → getD ts i true ≡ true
 
 failing-at : (ts : List Bool) (k : ℕ) → k < length ts → ((i : ℕ) → i < k → getD ts i true ≡ true) → getD ts k true ≡ false → firstFailing ts ≡ some k
@@ -100,7 +100,7 @@ unfolding orderTests
 ordered-was ss [] row pass = tt
 ordered-was ss (o ∷ os) row pass = (leb-true _ _ (pass 0), ordered-was ss os row (λ i. pass (suc i)))
 
-ordered-pass : (ss : List Shape) (os : List Order) (row : List ℕ) → Ordered ss os row → Pass (orderTests ss os row)
+pub ordered-pass : (ss : List Shape) (os : List Order) (row : List ℕ) → Ordered ss os row → Pass (orderTests ss os row)
 unfolding orderTests
 ordered-pass ss [] row h i = refl
 ordered-pass ss (o ∷ os) row h zero = le-leb _ _ (h .0)
@@ -147,14 +147,6 @@ module _ (way : Way) (kind : ℕ) (row : List ℕ) where
       ∙ ap (λ (n : ℕ). Option·map (λ (i : ℕ). n + i) (firstFailing (orderTests (layout kind) (orders kind) row))) (length-field-tests way (layout kind) row)
 
 -- ---- the fault of the pairs
--- pair i is not in order, and those before it are
-pub pair-fails : (kind : ℕ) (row : List ℕ) (i : ℕ) → i < length (orders kind)
-    → ((j : ℕ) → j < i → getD (orderTests (layout kind) (orders kind) row) j true ≡ true) → getD (orderTests (layout kind) (orders kind) row) i true ≡ false
-    → orderFault kind row ≡ some (length (layout kind) + i)
-unfolding orderFault orderTests
-pair-fails kind row i h before bad =
-    rw (failing-at (orderTests (layout kind) (orders kind) row) i (omega (arith, length-map (orders kind) (λ (o : Order). leb (getD row (placeOf kind (o .lesser)) 0) (getD row (placeOf kind (o .greater)) 0)))) before bad)
-
 pub pairs-pass : (kind : ℕ) (row : List ℕ) → Ordered (layout kind) (orders kind) row → orderFault kind row ≡ none
 unfolding orderFault
 pairs-pass kind row h = rw (failing-none (orderTests (layout kind) (orders kind) row) (ordered-pass (layout kind) (orders kind) row h))
@@ -171,10 +163,6 @@ unfolding isSome numberOr0
 is-some none e = absurd (false≢true e)
 is-some (some n) e = refl
 
-some-is : (o : Option ℕ) (n : ℕ) → o ≡ some n → isSome o ≡ true
-unfolding isSome
-some-is o n e = ap isSome e
-
 pub faultless : (way : Way) (kind : ℕ) (row : List ℕ) → rowFault way kind row ≡ none → Faultless way kind row
 unfolding rowFaultIn
 faultless way kind row e =
@@ -190,7 +178,7 @@ faultless way kind row e =
     }
 
 pub no-fault : (way : Way) (kind : ℕ) (row : List ℕ) → Faultless way kind row → rowFault way kind row ≡ none
-no-fault way kind row f = fault-order way kind row (λ i h. some-is _ _ (f .fields i h)) ∙ pairs-pass kind row (f .ordered)
+no-fault way kind row f = fault-order way kind row (λ i h. some-told _ _ (f .fields i h)) ∙ pairs-pass kind row (f .ordered)
 
 -- ---- rows that agree at each place have one fault
 pairs-same : (row row′ : List ℕ) → ((k : ℕ) → getD row k 0 ≡ getD row′ k 0) → (ss : List Shape) (os : List Order) → orderTests ss os row ≡ orderTests ss os row′

@@ -87,10 +87,6 @@ pub less-one-meant : (n : ℕ) → n < 4 → meaning LessOne n ≡ some (n + 1)
 unfolding meaning
 less-one-meant n h = rw (lt-ltb n 4 h)
 
-pub less-one-unmeant : (n : ℕ) → 4 ≤ n → meaning LessOne n ≡ none
-unfolding meaning
-less-one-unmeant n h = rw (le-ltb n 4 h)
-
 pub less-one-was : (n v : ℕ) → meaning LessOne n ≡ some v → (n < 4) × (n + 1 ≡ v)
 unfolding meaning
 less-one-was n v e = let given = pick-gave (ltb n 4) (n + 1) v e in (ltb-true n 4 (given .0), given .1)
@@ -98,10 +94,6 @@ less-one-was n v e = let given = pick-gave (ltb n 4) (n + 1) v e in (ltb-true n 
 pub less-one-stored : (width v : ℕ) → 1 ≤ v → v ≤ 4 → storedAs LessOne width v ≡ some (v - 1)
 unfolding storedAs
 less-one-stored width v h l = rw (within-yes 1 4 v (h, l))
-
-pub less-one-unstored : (width v : ℕ) → (v < 1) ⊎ (4 < v) → storedAs LessOne width v ≡ none
-unfolding storedAs
-less-one-unstored width v out = rw (within-not 1 4 v out)
 
 less-one-stored-was : (width v n : ℕ) → storedAs LessOne width v ≡ some n → (1 ≤ v) × (v ≤ 4) × (v - 1 ≡ n)
 unfolding storedAs
@@ -119,18 +111,10 @@ unfolding meaning
 speed-meant n v (inl h) = rw (h .0, h .1)
 speed-meant n v (inr h) = rw (h .0, h .1)
 
-pub speed-unmeant : (n : ℕ) → 2 ≤ n → meaning Speed n ≡ none
-unfolding meaning
-speed-unmeant n h = rw (ne-eqb n 0 (omega arith), ne-eqb n 1 (omega arith))
-
 pub speed-stored : (width n v : ℕ) → SpeedCode n v → storedAs Speed width v ≡ some n
 unfolding storedAs
 speed-stored width n v (inl h) = rw (h .0, h .1)
 speed-stored width n v (inr h) = rw (h .0, h .1)
-
-pub speed-unstored : (width v : ℕ) → (v ≡ 100 → ⊥) → (v ≡ 10 → ⊥) → storedAs Speed width v ≡ none
-unfolding storedAs
-speed-unstored width v h l = rw (ne-eqb v 100 h, ne-eqb v 10 l)
 
 -- one of two numbers stands for one of two
 choice-was : (x a b p q y : ℕ) → pick (eqb x a) (some p) (pick (eqb x b) (some q) none) ≡ some y → ((x ≡ a) × (y ≡ p)) ⊎ ((x ≡ b) × (y ≡ q))

@@ -1,9 +1,7 @@
--- A count of rows has at most 12 bits; a part of a row stands in the array that holds it; and what a fault tells.
+-- A count of rows has at most 12 bits; and a part of a row stands in the array that holds it.
 -- Assumes nothing.
 use mathlib.Core.Path.{_≡_, ap, _∙_}
-use mathlib.Core.Bool.{true, false}
 use mathlib.Core.List.{List}
-use mathlib.Core.Option.{Option, none, some}
 use Prim.Native.Nat.{ℕ, _+_, _-_, _^_, _≤_, _<_}
 use native.Mathlib.Omega.{arith}
 use lib.Dec.{leb, leb→le}
@@ -11,23 +9,20 @@ use lib.ListN.{length, getD, take, drop, replicate, length-drop}
 use lib.Seq.{take-append-le, drop-append-le}
 use Rattle.base.proofs.Every.{at}
 use Rattle.bits.proofs.PartLaws.{fit-at}
-use Rattle.layout.specs.declared.Fault.{Fault}
-use Rattle.layout.specs.declared.Fault.the-variants.{Test, Nothing}
-use Rattle.layout.specs.Layout.{layoutIn, header, widths}
-use Rattle.base.specs.Tests.{isSome, numberOr0}
+use Rattle.layout.specs.Layout.{layoutIn, widths}
 use Rattle.layout.specs.Rows.{rowAt}
-use Rattle.layout.specs.Contracts.{wide, faultOf}
-use Rattle.layout.proofs.LayoutLaws.{length-widths, fields-are}
+use Rattle.layout.specs.Contracts.{wide}
+use Rattle.layout.proofs.LayoutLaws.{length-widths, header-fields}
 use Rattle.layout.proofs.RoomLaws.{row-fits}
 
 -- ---- a count of rows has at most 12 bits
 few-bits : (s : ℕ) → s < 6 → 2 ^ getD (widths 0) s 0 ≤ 4096
-unfolding widths layoutIn header
+unfolding widths layoutIn
 few-bits s h = leb→le _ _ (at (λ k. leb (2 ^ getD (widths 0) k 0) 4096) 6 tt s h)
 
 pub count-lt : (bytes : List ℕ) (a s : ℕ) → s < 6 → getD (rowAt bytes a 0) s 0 < 4096
 count-lt bytes a s h =
-    omega (arith, few-bits s h, fit-at (widths 0) (rowAt bytes a 0) s (row-fits bytes a 0) (omega (arith, length-widths 0, fields-are 0)))
+    omega (arith, few-bits s h, fit-at (widths 0) (rowAt bytes a 0) s (row-fits bytes a 0) (omega (arith, length-widths 0, header-fields)))
 
 -- ---- n numbers of a row from number a on
 pub part-wide : (row : List ℕ) (a n : ℕ) → a + n ≤ length row → take n (drop a (wide row)) ≡ take n (drop a row)
@@ -35,21 +30,3 @@ unfolding wide
 part-wide row a n h =
     let zeros : List ℕ = replicate (11 - length row) 0 in
     ap (λ (l : List ℕ). take n l) (drop-append-le a row zeros (omega arith)) ∙ take-append-le n (drop a row) zeros (omega (arith, length-drop a row))
-
--- ---- whether there is a number, and which
-pub some-number : (o : Option ℕ) (n : ℕ) → o ≡ some n → (isSome o ≡ true) × (numberOr0 o ≡ n)
-unfolding isSome numberOr0
-some-number o n e = (ap isSome e, ap numberOr0 e)
-
-pub no-number : (o : Option ℕ) → o ≡ none → isSome o ≡ false
-unfolding isSome
-no-number o e = ap isSome e
-
--- ---- what the answer of a test stands for
-pub test-given : (x : Fault) (i : ℕ) → x ≡ Test i → faultOf x ≡ some i
-unfolding faultOf
-test-given x i e = ap faultOf e
-
-pub nothing-given : (x : Fault) → x ≡ Nothing → faultOf x ≡ none
-unfolding faultOf
-nothing-given x e = ap faultOf e

@@ -1,6 +1,6 @@
 -- Where the table has a row of a section: two bounds, and then each field of the row is one that the cursor reads or writes.
 -- Assumes nothing.
-use mathlib.Core.Path.{_≡_, refl, sym, ap, _∙_}
+use mathlib.Core.Path.{_≡_, refl}
 use mathlib.Core.Bool.{Bool, true, false, and-eq-true-iff, and-false}
 use mathlib.Core.List.{List}
 use Prim.Native.Nat.{ℕ, _+_, _*_, _^_, _≤_, _<_}
@@ -14,13 +14,13 @@ use Rattle.bits.specs.Place.{Room}
 use Rattle.base.specs.Tabulate.{total}
 use Rattle.bits.specs.Rows.{readAll, putAll}
 use Rattle.bits.specs.Tables.{Fit}
-use Rattle.bits.proofs.RecordLaws.{total-more, total-le, fit-read, length-put-all}
-use Rattle.bits.proofs.PartLaws.{put-first, fit-of}
+use Rattle.bits.proofs.RecordLaws.{total-more, total-le, fit-read}
+use Rattle.bits.proofs.PartLaws.{fit-of}
 use Rattle.layout.specs.Layout.{layout, blank, widths}
 use Rattle.layout.specs.Rows.{rowRoom, rowAt}
-use Rattle.layout.specs.Contracts.{withRowAt, wide}
-use Rattle.layout.proofs.LayoutLaws.{narrow, few-fields, widths-at, length-widths}
-use Rattle.layout.proofs.RowLaws.{zero-at, length-wide, take-wide}
+use Rattle.layout.specs.Contracts.{withRowAt}
+use Rattle.layout.proofs.LayoutLaws.{narrow, widths-at, length-widths}
+use Rattle.layout.proofs.RowLaws.{zero-at}
 
 -- ---- the test
 pub room-was : (n a : ℕ) (ws : List ℕ) → rowRoom n a ws ≡ true → (n ≤ 2 ^ 32) × (a + total ws ≤ 8 * n)
@@ -73,18 +73,10 @@ module _ (bytes : List ℕ) (a kind : ℕ) where
       let w = widths-at kind k in
       let more = total-more (widths kind) k (omega arith) in
       let all = total-le (widths kind) (k + 1) in
-      record { narrow = narrow kind k h; inside = omega arith; short = was .0 }
+      record { narrow = narrow kind k; inside = omega arith; short = was .0 }
 
 -- ---- what is read and written
 module _ (bytes : List ℕ) (a kind : ℕ) where
-  -- the tests are the same for the bytes with another row, which are as many
-  pub length-with : (raw : List ℕ) → length (withRowAt bytes a kind raw) ≡ length bytes
-  length-with raw = go (rowRoom (length bytes) a (widths kind)) refl
-    where
-      go : (t : Bool) → rowRoom (length bytes) a (widths kind) ≡ t → length (withRowAt bytes a kind raw) ≡ length bytes
-      go true e = rw (put-there bytes a kind raw e) (length-put-all bytes a (widths kind) raw)
-      go false e = rw (put-none bytes a kind raw e)
-
   -- the numbers read are those of the section's fields, and fit them
   pub row-fits : Fit (widths kind) (rowAt bytes a kind)
   row-fits = go (rowRoom (length bytes) a (widths kind)) refl
@@ -95,20 +87,3 @@ module _ (bytes : List ℕ) (a kind : ℕ) where
           rw (row-none bytes a kind e)
           (fit-of (widths kind) (replicate (length (widths kind)) 0) (length-replicate (length (widths kind)) 0)
           (λ k h. rw (zero-at (length (widths kind)) k) (pow-pos (getD (widths kind) k 0))))
-
-  -- zeros past a row are not written
-  pub put-wide : (row : List ℕ) → length row ≡ length (layout kind) → withRowAt bytes a kind (wide row) ≡ withRowAt bytes a kind row
-  put-wide row long = go (rowRoom (length bytes) a (widths kind)) refl
-    where
-      same : length row ≡ length (widths kind)
-      same = long ∙ sym (length-widths kind)
-
-      enough : length (widths kind) ≤ length (wide row)
-      enough = omega (arith, same, few-fields kind, length-wide row (omega (arith, few-fields kind)))
-
-      go : (t : Bool) → rowRoom (length bytes) a (widths kind) ≡ t → withRowAt bytes a kind (wide row) ≡ withRowAt bytes a kind row
-      go false e = put-none bytes a kind (wide row) e ∙ sym (put-none bytes a kind row e)
-      go true e =
-          rw (put-there bytes a kind (wide row) e, put-there bytes a kind row e)
-          (sym (put-first bytes a (widths kind) (wide row) enough)
-          ∙ rw (← same) (ap (putAll bytes a (widths kind)) (take-wide row)))

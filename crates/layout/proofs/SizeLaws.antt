@@ -9,7 +9,7 @@ use Rattle.layout.specs.Limits.{limits, mostIn, most}
 use Rattle.layout.specs.Fields.{isPadding}
 use Rattle.layout.specs.declared.Name.the-variants as name
 use Rattle.layout.specs.Names.{numberOf, indexIn}
-use Rattle.layout.specs.Layout.{header, endSystem, vl, stream, port, hop, layoutIn, placeOf, headerNames, widths, size}
+use Rattle.layout.specs.Layout.{layoutIn, kindsOf, kindOf, placeOf, headerNames, widths, size}
 use Rattle.layout.specs.Rows.{listedIn, listed}
 use Rattle.layout.specs.Sizes.{capacity, place, mostBytes}
 
@@ -22,7 +22,7 @@ pub record Most : Type 0 where
 
 pub most-are : Most
 unfolding mostIn
-most-are = record { systems = refl; vls = refl; streams = refl; ports = refl; hops = refl }
+most-are = search
 
 pub record Places : Type 0 where
   pub systems : place 1 ≡ 10
@@ -33,8 +33,8 @@ pub record Places : Type 0 where
   pub end : place 6 ≡ 10 + limits .systems + limits .vls * 4 + limits .streams * 7 + limits .ports * 3 + limits .hops * 3
 
 pub places-are : Places
-unfolding place capacity mostIn listed listedIn isPadding layoutIn header endSystem vl stream port hop
-places-are = record { systems = refl; vls = refl; streams = refl; ports = refl; hops = refl; end = refl }
+unfolding place capacity mostIn listed listedIn isPadding kindOf kindsOf layoutIn
+places-are = search
 
 -- a section's list ends before the next begins
 pub place-le : (s t : ℕ) → s ≤ t → place s ≤ place t
@@ -47,7 +47,7 @@ place-le s (suc t) h = elim (decLt s (suc t)) [
 
 -- the longest table
 pub longest-table : mostBytes 5 ≡ 14 + limits .systems + limits .vls * 3 + limits .streams * 13 + limits .ports * 4 + limits .hops * 4
-unfolding mostBytes mostIn size widths layoutIn header endSystem vl stream port hop total
+unfolding mostBytes mostIn size widths layoutIn total
 longest-table = refl
 
 -- ---- where each field stands: the constants of `layout::places`
@@ -77,32 +77,8 @@ pub record FieldPlaces : Type 0 where
   pub hop-parent : placeOf 5 name.Parent ≡ 2
 
 pub field-places : FieldPlaces
-unfolding indexIn numberOf layoutIn header endSystem vl stream port hop
-field-places = record {
-  version = refl;
-  send-least = refl;
-  send-greatest = refl;
-  receive-least = refl;
-  receive-greatest = refl;
-  system-speed = refl;
-  vl-system = refl;
-  vl-gap = refl;
-  vl-sub-links = refl;
-  vl-lmax = refl;
-  stream-vl = refl;
-  stream-sub-link = refl;
-  stream-kind = refl;
-  stream-size = refl;
-  stream-least-size = refl;
-  stream-period = refl;
-  stream-jitter = refl;
-  port-speed = refl;
-  port-least = refl;
-  port-greatest = refl;
-  hop-vl = refl;
-  hop-port = refl;
-  hop-parent = refl;
-}
+unfolding indexIn numberOf layoutIn
+field-places = search
 
 -- the same in the header's list
 pub record ListPlaces : Type 0 where
@@ -114,4 +90,4 @@ pub record ListPlaces : Type 0 where
 
 pub list-places : ListPlaces
 unfolding indexIn numberOf
-list-places = record { version = refl; send-least = refl; send-greatest = refl; receive-least = refl; receive-greatest = refl }
+list-places = search

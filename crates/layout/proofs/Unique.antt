@@ -6,30 +6,30 @@ use Rattle.base.specs.Settles.{Settles}
 use Rattle.layout.specs.declared.Fault.{Fault}
 use Rattle.layout.specs.declared.Fault.the-variants.{Test, Nothing}
 use Rattle.layout.specs.Contracts.{faultOf}
-use Rattle.layout.proofs.fields_in.Kinds as fields-kinds
-use Rattle.layout.proofs.fields_in.Reads as fields-reads
-use Rattle.layout.proofs.numbers_in.Kinds as numbers-kinds
-use Rattle.layout.proofs.numbers_in.Reads as numbers-reads
-use Rattle.layout.proofs.bytes_in.Kinds as bytes-kinds
-use Rattle.layout.proofs.bytes_in.Reads as bytes-reads
-use Rattle.layout.proofs.kind_of.Kinds as kind-kinds
-use Rattle.layout.proofs.kind_of.Reads as kind-reads
-use Rattle.layout.proofs.longest_table.Kinds as longest-kinds
-use Rattle.layout.proofs.longest_table.Reads as longest-reads
+use Rattle.layout.proofs.kinds.fields_in.Kinds as fields-kinds
+use Rattle.layout.proofs.kinds.fields_in.Reads as fields-reads
+use Rattle.layout.proofs.kinds.numbers_in.Kinds as numbers-kinds
+use Rattle.layout.proofs.kinds.numbers_in.Reads as numbers-reads
+use Rattle.layout.proofs.kinds.bytes_in.Kinds as bytes-kinds
+use Rattle.layout.proofs.kinds.bytes_in.Reads as bytes-reads
+use Rattle.layout.proofs.kinds.kind_of.Kinds as kind-kinds
+use Rattle.layout.proofs.kinds.kind_of.Reads as kind-reads
+use Rattle.layout.proofs.kinds.longest_table.Kinds as longest-kinds
+use Rattle.layout.proofs.kinds.longest_table.Reads as longest-reads
 use Rattle.layout.proofs.shapes.shape_at.Kinds as shape-kinds
 use Rattle.layout.proofs.shapes.shape_at.Reads as shape-reads
 use Rattle.layout.proofs.orders.orders_in.Kinds as orders-kinds
 use Rattle.layout.proofs.orders.orders_in.Reads as orders-reads
 use Rattle.layout.proofs.orders.order_at.Kinds as order-kinds
 use Rattle.layout.proofs.orders.order_at.Reads as order-reads
-use Rattle.layout.proofs.row_at.Kinds as row-kinds
-use Rattle.layout.proofs.row_at.Reads as row-reads
-use Rattle.layout.proofs.put_row.Kinds as put-kinds
-use Rattle.layout.proofs.put_row.Reads as put-reads
-use Rattle.layout.proofs.converted_row.Kinds as converted-kinds
-use Rattle.layout.proofs.converted_row.Reads as converted-reads
-use Rattle.layout.proofs.fault_of.Kinds as fault-kinds
-use Rattle.layout.proofs.fault_of.Reads as fault-reads
+use Rattle.layout.proofs.rows.row_at.Kinds as row-kinds
+use Rattle.layout.proofs.rows.row_at.Reads as row-reads
+use Rattle.layout.proofs.rows.put_row.Kinds as put-kinds
+use Rattle.layout.proofs.rows.put_row.Reads as put-reads
+use Rattle.layout.proofs.rows.converted_row.Kinds as converted-kinds
+use Rattle.layout.proofs.rows.converted_row.Reads as converted-reads
+use Rattle.layout.proofs.rows.fault_of.Kinds as fault-kinds
+use Rattle.layout.proofs.rows.fault_of.Reads as fault-reads
 
 pub fields : Settles 0 fields-kinds.ps fields-kinds.r fields-reads.Post
 fields κs a x y ws vs p q = (p ∙ sym q, refl)

@@ -16,7 +16,7 @@ use Rattle.layout.specs.declared.Name.{Name}
 use Rattle.layout.specs.declared.Order.{Order}
 use Rattle.layout.specs.Limits.{Limits, limits}
 use Rattle.layout.specs.Names.{placeIn}
-use Rattle.layout.specs.Layout.{layoutIn, layout, placeOf, orders, widths}
+use Rattle.layout.specs.Layout.{layoutIn, layout, kindOf, placeOf, orders, widths}
 use Rattle.layout.specs.Fields.{isPadding, convert}
 
 -- ---- a row in the table
@@ -40,14 +40,14 @@ converted way (s ∷ ss) (n ∷ row) = numberOr0 (convert way s n) ∷ converted
 unfoldable pub named : ℕ → List ℕ → Name → ℕ
 named kind row n = getD row (placeOf kind n) 0
 
--- how many numbers a record has in the lists: all its fields but the padding, which is the last. Every version has as many in a section, so
--- that the section's number, which is the kind of version 1, tells them
+-- how many numbers a record has in the lists: all its fields but the padding, which is the last
 unfoldable pub listedIn : List Shape → ℕ
 listedIn [] = 0
 listedIn (s ∷ ss) = pick (isPadding (s .kind)) 0 1 + listedIn ss
 
+-- by the section: every version has as many, so that version 1 tells them
 unfoldable pub listed : ℕ → ℕ
-listed kind = listedIn (layout kind)
+listed section = listedIn (layout (kindOf 1 section))
 
 -- ---- the tests of a row, in 01's order: each field's own range, then the pairs of fields that are in order
 -- 4: "a record's field or padding out of range"

@@ -23,12 +23,12 @@ use Rattle.layout.specs.declared.Kind.the-variants.{Number, Reference, Padding,
 use Rattle.layout.specs.declared.Shape.{Shape}
 use Rattle.layout.specs.declared.Way.the-variants.{Writing}
 use Rattle.layout.specs.Names.{numberOf}
-use Rattle.layout.specs.Layout.{layoutIn, header, endSystem, vl, stream, port, hop, layout, kindsOf, kindOf, blank}
+use Rattle.layout.specs.Layout.{layoutIn, header, layout, kindsOf, kindOf, blank}
 use Rattle.layout.specs.Fields.{isPadding, storedAs, convert}
 use Rattle.layout.specs.Rows.{listedIn, listed, converted}
 use Rattle.layout.proofs.FieldLaws.{number-was, padding-converted}
 use Rattle.layout.proofs.FaultLaws.{faultless}
-use Rattle.layout.proofs.LayoutLaws.{listed-same, listed-fields, fields-are}
+use Rattle.layout.proofs.LayoutLaws.{every-kind, listed-same, listed-fields, header-fields}
 use Rattle.notation.specs.Notation.{lineFields, formOf, choices}
 use Rattle.notation.specs.Printed.{recordIn}
 use Rattle.notation.specs.Back.{spoken, sayable, Sayable, RecordSayable, DelaysSayable, headerOf, Acceptable, AcceptedPrintable}
@@ -77,13 +77,13 @@ tellAll [] = true
 tellAll (s ∷ ss) = ltb (greatest (s .kind) (s .width)) (sayable s) && tellAll ss
 
 all-tell : (v s : ℕ) → s ≤ 5 → T (tellAll (lineFields v s))
-unfolding tellAll greatest sayable spoken formOf choices numberOf lineFields kindOf kindsOf layoutIn header endSystem vl stream port hop listed listedIn isPadding
+unfolding tellAll greatest sayable spoken formOf choices numberOf lineFields kindOf kindsOf layoutIn listed listedIn isPadding
 all-tell v zero h = tt
-all-tell v (suc zero) h = tt
-all-tell v (suc (suc zero)) h = tt
-all-tell v (suc (suc (suc zero))) h = tt
-all-tell v (suc (suc (suc (suc zero)))) h = tt
-all-tell v (suc (suc (suc (suc (suc zero))))) h = tt
+all-tell v (suc zero) h = every-kind (λ k. T (tellAll (take (listed 1) (layout k)))) 1 (search) v
+all-tell v (suc (suc zero)) h = every-kind (λ k. T (tellAll (take (listed 2) (layout k)))) 2 (search) v
+all-tell v (suc (suc (suc zero))) h = every-kind (λ k. T (tellAll (take (listed 3) (layout k)))) 3 (search) v
+all-tell v (suc (suc (suc (suc zero)))) h = every-kind (λ k. T (tellAll (take (listed 4) (layout k)))) 4 (search) v
+all-tell v (suc (suc (suc (suc (suc zero))))) h = every-kind (λ k. T (tellAll (take (listed 5) (layout k)))) 5 (search) v
 all-tell v (suc (suc (suc (suc (suc (suc s)))))) h = absurd (omega arith)
 
 accepted-sayable : (ss : List Shape) (ns : List ℕ) (f : ℕ → ℕ) → length ns ≡ length ss → T (tellAll ss)
@@ -128,7 +128,7 @@ delays-sayable v row long e =
     (all-tell v 0 (omega arith))
     (λ k l.
     rw (← delay-field v k (omega (arith, count)), getD-take 4 (drop 6 row) k 0 (omega (arith, count)), getD-drop 6 row k 0, add-comm 6 k)
-    (good .fields (k + 6) (omega (arith, count, fields-are 0))))
+    (good .fields (k + 6) (omega (arith, count, header-fields))))
 
 -- ---- the lists of a table
 -- a record of a list is whole
@@ -169,7 +169,7 @@ module _ (lists : ℕ → List ℕ) (a : Acceptable lists) where
   counts-known = length-tabulate (λ s. length (lists (suc s)) / listed (suc s)) 5
 
   version-one : getD (lists 0) 0 1 ≤ 1
-  unfolding headerOf counts layoutIn header greatest
+  unfolding headerOf counts layoutIn greatest
   version-one =
       rw (head-version (lists 0) counts (a .head) counts-known) at
       (accepted-most (getD (layout 0) 0 blank) _ _ (faultless Writing 0 (headerOf lists) (a .header) .fields 0 (omega arith)))

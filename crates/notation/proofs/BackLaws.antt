@@ -15,7 +15,7 @@ use Rattle.base.specs.Pick.{pick, within}
 use Rattle.base.specs.Tabulate.{tabulate}
 use Rattle.base.proofs.Tests.{within-yes, within-above, same-test}
 use Rattle.layout.specs.Names.{numberOf}
-use Rattle.layout.specs.Layout.{layoutIn, header}
+use Rattle.layout.specs.Layout.{layoutIn}
 use Rattle.layout.specs.Rows.{listed}
 use Rattle.words.specs.Words.{wordsOf}
 use Rattle.words.specs.Printed.{areWords, areLines, lineOf, textOf}
@@ -147,7 +147,7 @@ module _ (lists : ℕ → List ℕ) (p : Printable lists) where
       all-words-append (recordLines version lists n) _ (sections-words n (omega arith)) (section-words (suc n) (omega arith) h)
 
   pub version-sayable : (w : ℕ) → Sayable (lineFields w versionLine) (version ∷ [])
-  unfolding Sayable sayable spoken formOf numberOf lineFields layoutIn header
+  unfolding Sayable sayable spoken formOf numberOf lineFields layoutIn
   version-sayable w = (p .version, tt)
 
   table-words : AllWords (tableLines lists)
@@ -178,7 +178,7 @@ module _ (lists : ℕ → List ℕ) (p : Printable lists) where
 
   -- there are four delays, so there is a number before them
   header-whole : version ∷ drop 1 (lists 0) ≡ lists 0
-  unfolding Sayable lineFields layoutIn header
+  unfolding Sayable lineFields layoutIn
   header-whole = go (lists 0) (p .delays)
     where
       go : (l : List ℕ) → Sayable (lineFields version 0) (drop 1 l) → getD l 0 1 ∷ drop 1 l ≡ l

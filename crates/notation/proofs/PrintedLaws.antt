@@ -15,9 +15,9 @@ use Rattle.layout.specs.declared.Shape.{Shape}
 use Rattle.layout.specs.declared.Name.{Name}
 use Rattle.layout.specs.declared.Name.the-variants as name
 use Rattle.layout.specs.Names.{numberOf, same as is}
-use Rattle.layout.specs.Layout.{layoutIn, header, layout, kindOf, blank}
+use Rattle.layout.specs.Layout.{layoutIn, layout, kindOf, blank}
 use Rattle.layout.specs.Rows.{listed}
-use Rattle.layout.proofs.LayoutLaws.{listed-past, listed-same, listed-fields, listed-is}
+use Rattle.layout.proofs.LayoutLaws.{listed-past, listed-same, listed-fields, listed-few}
 use Rattle.text.specs.Text.{decimal}
 use Rattle.text.proofs.DecimalLaws.{length-decimal}
 use Rattle.words.specs.Printed.{lineFrom, lineOf}
@@ -88,11 +88,11 @@ record-fields v (suc (suc (suc (suc (suc (suc zero)))))) a b = absurd (b refl)
 record-fields v (suc (suc (suc (suc (suc (suc (suc s))))))) a b = rw (listed-past (suc (suc (suc (suc (suc (suc (suc s))))))) (omega arith))
 
 pub delays-count : (v : ℕ) → length (lineFields v 0) ≡ 4
-unfolding lineFields layoutIn header
+unfolding lineFields layoutIn
 delays-count v = refl
 
 pub version-count : (v : ℕ) → length (lineFields v 6) ≡ 1
-unfolding lineFields layoutIn header
+unfolding lineFields layoutIn
 version-count v = refl
 
 pub record-count : (v s : ℕ) → (s ≡ 0 → ⊥) → (s ≡ 6 → ⊥) → length (lineFields v s) ≡ listed s
@@ -100,7 +100,7 @@ record-count v s a b =
     rw (record-fields v s a b, length-take (listed s) (layout (kindOf v s))) (omega (arith, listed-same v s, listed-fields (kindOf v s)))
 
 pub delay-field : (v k : ℕ) → k < 4 → getD (layout 0) (k + 6) blank ≡ getD (lineFields v 0) k blank
-unfolding lineFields layoutIn header
+unfolding lineFields layoutIn
 delay-field v zero h = refl
 delay-field v (suc zero) h = refl
 delay-field v (suc (suc zero)) h = refl
@@ -108,7 +108,7 @@ delay-field v (suc (suc (suc zero))) h = refl
 delay-field v (suc (suc (suc (suc k)))) h = absurd (omega arith)
 
 pub version-field : (v k : ℕ) → k < 1 → getD (layout 0) k blank ≡ getD (lineFields v 6) k blank
-unfolding lineFields layoutIn header
+unfolding lineFields layoutIn
 version-field v zero h = refl
 version-field v (suc k) h = absurd (omega arith)
 
@@ -120,14 +120,7 @@ record-field v s k a b h =
 -- ---- how long a line is
 record-few : (s : ℕ) → (s ≡ 0 → ⊥) → listed s ≤ 7
 record-few zero a = absurd (a refl)
-record-few (suc s) a = rw (listed-is (suc s)) (go (decLt s 5))
-  where
-    l : List ℕ
-    l = 1 ∷ 4 ∷ 7 ∷ 3 ∷ 3 ∷ []
-
-    go : Dec (s < 5) → getD l s 0 ≤ 7
-    go (yes h) = leb→le _ _ (at (λ k. leb (getD l k 0) 7) 5 tt s h)
-    go (no n) = rw (List·getD-eq-default l 0 {n = s} (omega arith)) (omega arith)
+record-few (suc s) a = listed-few s
 
 few-fields : (v s : ℕ) → length (lineFields v s) ≤ 7
 few-fields v s = go (ℕ-discrete s 0) (ℕ-discrete s 6)

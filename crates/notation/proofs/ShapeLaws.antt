@@ -4,12 +4,12 @@ use Prim.Native.Nat.{ℕ, zero, suc, _+_, _≤_, _<_}
 use mathlib.Core.Path.{_≡_, refl, sym, ap, _∙_}
 use native.Mathlib.Omega.{arith}
 use borrow.Author.Tests.{ne-eqb}
-use lib.ListN.{length, getD, take, drop}
+use lib.ListN.{length, getD, take, drop, length-take}
 use lib.Seq.{getD-take, getD-drop}
-use Rattle.layout.specs.Layout.{layout, layoutIn, kindOf, kindsOf, header, endSystem, vl, stream, port, hop, blank}
+use Rattle.layout.specs.Layout.{layout, layoutIn, kindOf, kindsOf, blank}
 use Rattle.layout.specs.Fields.{isPadding}
 use Rattle.layout.specs.Rows.{listed, listedIn}
-use Rattle.layout.proofs.LayoutLaws.{listed-past}
+use Rattle.layout.proofs.LayoutLaws.{listed-fields, listed-same, listed-past}
 use Rattle.notation.specs.Notation.{versionLine, lineFields}
 use Rattle.notation.specs.Steps.{fieldsOf}
 
@@ -29,18 +29,30 @@ none-past : (s : ℕ) → versionLine < s → fieldsOf s ≡ 0
 unfolding fieldsOf
 none-past s h = rw (ne-eqb s 0 (omega arith), ne-eqb s 6 (omega arith)) (listed-past s (omega arith))
 
+record-many : (version s : ℕ) → length (take (listed s) (layout (kindOf version s))) ≡ listed s
+record-many version s =
+    rw (length-take (listed s) (layout (kindOf version s))) (omega (arith, listed-same version s, listed-fields (kindOf version s)))
+
 pub fields-many : (version s : ℕ) → length (lineFields version s) ≡ fieldsOf s
-unfolding lineFields fieldsOf listed listedIn isPadding kindOf kindsOf layoutIn header endSystem vl stream port hop
-fields-many version = by-section (λ s. length (lineFields version s) ≡ fieldsOf s) refl refl refl refl refl refl refl
+unfolding lineFields fieldsOf layoutIn
+fields-many version = by-section
+    (λ s. length (lineFields version s) ≡ fieldsOf s)
+    refl
+    (record-many version 1)
+    (record-many version 2)
+    (record-many version 3)
+    (record-many version 4)
+    (record-many version 5)
+    refl
     (λ s. sym (none-past (suc (suc (suc (suc (suc (suc (suc s))))))) (omega arith)))
 
 pub fields-few : (s : ℕ) → fieldsOf s ≤ 11
-unfolding fieldsOf listed listedIn isPadding layoutIn header endSystem vl stream port hop
+unfolding fieldsOf listed listedIn isPadding kindOf kindsOf layoutIn
 fields-few = by-section (λ s. fieldsOf s ≤ 11) (omega arith) (omega arith) (omega arith) (omega arith) (omega arith) (omega arith) (omega arith)
     (λ s. omega (arith, none-past (suc (suc (suc (suc (suc (suc (suc s))))))) (omega arith)))
 
 pub fields-some : (s : ℕ) → s ≤ versionLine → 1 ≤ fieldsOf s
-unfolding fieldsOf listed listedIn isPadding layoutIn header endSystem vl stream port hop
+unfolding fieldsOf listed listedIn isPadding kindOf kindsOf layoutIn
 fields-some = by-section
     (λ s. s ≤ versionLine → 1 ≤ fieldsOf s)
     (λ h. omega arith)

@@ -12,18 +12,17 @@ use Rattle.frame.specs.Gap.{gapOf, msOf}
 use Rattle.frame.specs.Tick.{perMs}
 use Rattle.frame.proofs.GapLaws.{ms-given, gap-refused, gap-in-ms}
 use Rattle.layout.specs.declared.Way.the-variants.{Reading}
-use Rattle.layout.specs.Fields.{meaning, convert}
-use Rattle.layout.specs.Layout.{vl, layoutIn, layout, kindsOf, kindOf}
+use Rattle.layout.specs.Layout.{layoutIn, layout}
 use Rattle.layout.specs.declared.Name.the-variants as name
 use Rattle.layout.specs.Names.{numberOf, indexIn}
 use Rattle.layout.proofs.SizeLaws.{field-places}
 use Rattle.layout.specs.Rows.{named, converted}
-use Rattle.layout.proofs.FaultLaws.{faultless}
-use Rattle.layout.proofs.LayoutLaws.{fields-are, listed-is}
+use Rattle.layout.proofs.PlainLaws.{gap-meant}
+use Rattle.layout.proofs.LayoutLaws.{listed-is}
 use Rattle.network.specs.Network.{vlAt}
 use Rattle.search.specs.Pass.{cycle}
 use Rattle.table.specs.Answers.{accepted}
-use Rattle.table.specs.Sections.{kindIn, rows, row}
+use Rattle.table.specs.Sections.{version, kindIn, rows, row}
 use Rattle.table.specs.Lists.{unpacked}
 use Rattle.table.specs.Decoded.{vlIn}
 use Rattle.table.specs.Read.{networkIn, readAnswer}
@@ -40,8 +39,8 @@ evenly code h = eqb→eq (cycle % (perMs * 2 ^ code)) 0 (at (λ k. eqb (cycle % 
 -- what the code that is stored for VL v means, in milliseconds
 meant : (bytes : List ℕ) → Sound bytes → (v : ℕ) → v < rows bytes 2
     → msOf (named 2 (row bytes 2 v) name.Gap) ≡ some (named 2 (converted Reading (layout (kindIn bytes 2)) (row bytes 2 v)) name.Gap)
-unfolding kindOf kindsOf named indexIn numberOf layoutIn vl convert meaning
-meant bytes sound v h = faultless Reading 2 (row bytes 2 v) (sound-rows bytes sound 2 v (omega arith) h) .fields 1 (omega (arith, fields-are 2))
+unfolding named indexIn numberOf layoutIn
+meant bytes sound v h = gap-meant (version bytes) (row bytes 2 v) (sound-rows bytes sound 2 v (omega arith) h)
 
 of-vl : (bytes : List ℕ) → readAnswer bytes ≡ accepted → (v : ℕ) → v < length (networkIn bytes .vls)
     → gapOf (named 2 (row bytes 2 v) name.Gap) ≡ some (vlAt (networkIn bytes) v .gap)

@@ -20,7 +20,7 @@ use Rattle.frame.specs.Packets.{fullPacket, packets}
 use Rattle.frame.specs.Tick.{perMs, perByte, perUnit, sendBase, sendLimit, inTime}
 use Rattle.bits.specs.Bits.{digit, bitAt, fieldAt}
 use Rattle.bits.specs.Rows.{readAll}
-use Rattle.layout.specs.Layout.{header, endSystem, vl, stream, port, hop, layoutIn, kindsOf, kindOf, orders, widths, size}
+use Rattle.layout.specs.Layout.{vl, port, layoutIn, kindsOf, kindOf, orders, widths, size}
 use Rattle.layout.specs.Fields.{isPadding, meaning, convert}
 use Rattle.layout.specs.Names.{numberOf, indexIn}
 use Rattle.layout.specs.Rows.{rowRoom, rowAt, named, converted, listedIn, listed, fieldTests, orderTests, rowFaultIn}
@@ -53,7 +53,7 @@ use Rattle.order.proofs.Demand3.{demand-3}
 
 -- ---- the bytes: they read to 01's network
 pub network-is : networkIn table ≡ whole
-unfolding networkIn networkAt systemIn vlIn streamIn portIn hopIn ticksAt parentOf recordsIn listFor tabulate perMs perByte perUnit unpacked headerOf records recordOf row from rows headerRow rowAt rowRoom readAll fieldAt bitAt digit widths layoutIn size header endSystem vl stream port hop total converted convert meaning listed listedIn isPadding numberOr0 msOf indexIn numberOf version kindOf kindsOf named
+unfolding networkIn networkAt systemIn vlIn streamIn portIn hopIn ticksAt parentOf recordsIn listFor tabulate perMs perByte perUnit unpacked headerOf records recordOf row from rows headerRow rowAt rowRoom readAll fieldAt bitAt digit widths layoutIn size total converted convert meaning listed listedIn isPadding numberOr0 msOf indexIn numberOf version kindOf kindsOf named
 network-is = refl
 
 none-1 : answer1 table ≡ none
@@ -61,15 +61,15 @@ unfolding answer1
 none-1 = refl
 
 none-2 : answer2 table ≡ none
-unfolding answer2 rowFaultIn fieldTests orderTests orders firstFailing leastFrom isSome convert meaning headerRow rowAt rowRoom readAll fieldAt bitAt digit widths layoutIn size header total indexIn numberOf version kindOf kindsOf named
+unfolding answer2 rowFaultIn fieldTests orderTests orders firstFailing leastFrom isSome convert meaning headerRow rowAt rowRoom readAll fieldAt bitAt digit widths layoutIn size total indexIn numberOf version kindOf kindsOf named
 none-2 = refl
 
 none-3 : answer3 table ≡ none
-unfolding answer3 from rows headerRow rowAt rowRoom readAll fieldAt bitAt digit widths layoutIn size header endSystem vl stream port hop total version kindOf kindsOf named indexIn numberOf
+unfolding answer3 from rows headerRow rowAt rowRoom readAll fieldAt bitAt digit widths layoutIn size total version kindOf kindsOf named indexIn numberOf
 none-3 = refl
 
 none-4 : answer4 table ≡ none
-unfolding answer4 badSection badRow rowFaultIn fieldTests orderTests orders firstFailing leastFrom isSome convert meaning msOf row from rows headerRow rowAt rowRoom readAll fieldAt bitAt digit widths layoutIn size header endSystem vl stream port hop total indexIn numberOf version kindOf kindsOf named
+unfolding answer4 badSection badRow rowFaultIn fieldTests orderTests orders firstFailing leastFrom isSome convert meaning msOf row from rows headerRow rowAt rowRoom readAll fieldAt bitAt digit widths layoutIn size total indexIn numberOf version kindOf kindsOf named
 none-4 = refl
 
 -- ---- the network

@@ -21,7 +21,7 @@ use Rattle.layout.specs.declared.Way.the-variants.{Reading, Writing}
 use Rattle.layout.specs.Layout.{header, layoutIn, layout, kindOf, headerNames, widths, size}
 use Rattle.layout.specs.Names.{numberOf, indexIn}
 use Rattle.layout.specs.Rows.{rowAt, named, converted, rowFault}
-use Rattle.layout.proofs.LayoutLaws.{fields-are, listed-is, header-kind, length-widths, whole-bytes, size-most}
+use Rattle.layout.proofs.LayoutLaws.{header-fields, header-listed, header-kind, length-widths, whole-bytes, size-most}
 use Rattle.layout.proofs.RowLaws.{length-converted}
 use Rattle.layout.proofs.FaultLaws.{faultless}
 use Rattle.layout.proofs.BackLaws.{isNumber, numberAt, same-number}
@@ -35,7 +35,7 @@ use Rattle.table.proofs.WriteLaws.{count}
 -- ---- the numbers
 -- either way they stay what they are
 pub header-stays : (way : Way) (row : List ℕ) → rowFault way 0 row ≡ none → (k : ℕ) → k < 10 → getD (converted way (layout 0) row) k 0 ≡ getD row k 0
-unfolding numberAt isNumber layoutIn header
+unfolding numberAt isNumber layoutIn
 header-stays way row e k h = same-number way 0 row (faultless way 0 row e) k (at (numberAt (layout 0)) 10 tt k h)
 
 -- so are the counts
@@ -46,7 +46,7 @@ header-rows bytes e s h = header-stays Reading (headerRow bytes) e (suc s) (omeg
 
 -- and the version, which the lists then have
 pub version-meant : (bytes : List ℕ) → rowFault Reading 0 (headerRow bytes) ≡ none → versionFor (unpacked bytes) ≡ version bytes
-unfolding unpacked headerOf version named indexIn numberOf layoutIn header
+unfolding unpacked headerOf version named indexIn numberOf layoutIn
 version-meant bytes e = header-stays Reading (headerRow bytes) e 0 (omega arith)
 
 -- a table of the length that its counts require is short, as they have at most 12 bits
@@ -96,20 +96,20 @@ module _ (ls : Lists) where
 
   -- it has the numbers of the header's list
   pub header-numbers : length (ls .header) ≡ length headerNames → map (named 0 (headerFor ls)) headerNames ≡ ls .header
-  unfolding headerFor named indexIn numberOf layoutIn header
+  unfolding headerFor named indexIn numberOf layoutIn
   header-numbers n = five (ls .header) n
 
   -- a row that has the counts and these numbers, converted, is the header
   pub header-meant : (raw : List ℕ) → ((s : ℕ) → suc s < 6 → getD (converted Reading (layout 0) raw) (suc s) 0 ≡ recordsIn ls (suc s))
       → map (named 0 (converted Reading (layout 0) raw)) headerNames ≡ ls .header → headerFor ls ≡ converted Reading (layout 0) raw
-  unfolding headerFor named indexIn numberOf layoutIn header tabulate
+  unfolding headerFor named indexIn numberOf layoutIn tabulate
   header-meant raw counts numbers =
       let vs = converted Reading (layout 0) raw in
-      let n = length-converted Reading (layout 0) raw ∙ fields-are 0 in
+      let n = length-converted Reading (layout 0) raw ∙ header-fields in
       let all : tabulate (λ i. getD vs i 0) 11 ≡ vs = ap (tabulate (λ i. getD vs i 0)) (sym n) ∙ tabulate-rows vs 0 in
       let number : (k : ℕ) → getD (ls .header) k 0 ≡ getD (map (named 0 vs) headerNames) k 0 = λ k. ap (λ (l : List ℕ). getD l k 0) (sym numbers) in
       let tally : (s : ℕ) → suc s < 6 → recordsIn ls (suc s) ≡ getD vs (suc s) 0 = λ s h. sym (counts s h) in
-      let last = sym (padding-at 0 10 raw (omega (arith, listed-is 0)) (omega (arith, fields-are 0))) in
+      let last = sym (padding-at 0 10 raw (omega (arith, header-listed)) (omega (arith, header-fields))) in
       (λ i.
       number 0 i
       ∷ tally 0 (omega arith) i
@@ -127,7 +127,7 @@ module _ (ls : Lists) where
 
 -- ---- counts that fit their fields of at most 12 bits take few bytes
 few-bits : (s : ℕ) → s < 6 → 2 ^ getD (widths 0) s 0 ≤ 4096
-unfolding widths layoutIn header
+unfolding widths layoutIn
 few-bits s h = leb→le _ _ (at (λ k. leb (2 ^ getD (widths 0) k 0) 4096) 6 tt s h)
 
 start-most : (v : ℕ) (f : ℕ → ℕ) (n : ℕ) → ((s : ℕ) → s < n → f s ≤ 4096) → start v f n ≤ n * 57344
@@ -146,5 +146,5 @@ counts-short ls fit e = omega (arith, start-most (versionFor ls) (count ls) 6 fe
     few zero h = omega arith
     few (suc s) h =
         let is = header-stays Writing (headerFor ls) e (suc s) (omega arith) ∙ header-count ls s h in
-        let fits = fit-at (widths 0) (converted Writing (layout 0) (headerFor ls)) (suc s) fit (omega (arith, length-widths 0, fields-are 0)) in
+        let fits = fit-at (widths 0) (converted Writing (layout 0) (headerFor ls)) (suc s) fit (omega (arith, length-widths 0, header-fields)) in
         omega (arith, few-bits (suc s) h)

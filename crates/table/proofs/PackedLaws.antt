@@ -14,7 +14,7 @@ use Rattle.layout.specs.declared.Way.the-variants.{Reading, Writing}
 use Rattle.layout.specs.Names.{numberOf, indexIn}
 use Rattle.layout.specs.Layout.{header, layoutIn, layout, kindOf, headerNames, widths, size}
 use Rattle.layout.specs.Rows.{named, converted, listed, rowFault}
-use Rattle.layout.proofs.LayoutLaws.{whole-bytes, size-is, header-kind}
+use Rattle.layout.proofs.LayoutLaws.{whole-bytes, header-size, header-kind}
 use Rattle.layout.proofs.RoomLaws.{room-yes, row-there}
 use Rattle.table.specs.Sections.{headerRow, version, kindIn, rows, from, row, recordOf}
 use Rattle.table.specs.Lists.{Lists, listFor, recordsIn, versionFor, kindFor, headerOf, listIn, unpacked}
@@ -53,19 +53,19 @@ module _ (ls : Lists) (w : Writable ls) (back : (s i : ℕ) → s < 6 → i < co
   -- the header takes 14 bytes
   pub header-fits : 14 ≤ length (packed ls)
   unfolding start count
-  header-fits = omega (arith, long, start-le v (count ls) 1 6 (omega arith), size-is 0, ap size (header-kind v))
+  header-fits = omega (arith, long, start-le v (count ls) 1 6 (omega arith), header-size, ap size (header-kind v))
 
   header-row : headerRow (packed ls) ≡ converted Writing (layout 0) (headerFor ls)
   unfolding start meant
   header-row =
       let here : 0 ≡ 8 * start v (count ls) 0 + 0 * total (widths 0) = omega arith in
       header-at (packed ls) small
-      ∙ row-there (packed ls) 0 0 (room-yes (length (packed ls)) 0 (widths 0) small (omega (arith, header-fits, whole-bytes 0, size-is 0)))
+      ∙ row-there (packed ls) 0 0 (room-yes (length (packed ls)) 0 (widths 0) small (omega (arith, header-fits, whole-bytes 0, header-size)))
       ∙ ap (λ (a : ℕ). readAll (packed ls) a (widths 0)) here
       ∙ rw (header-kind v) at (row-packed ls fits 0 0 (omega arith) one-header)
 
   same-version : version (packed ls) ≡ v
-  unfolding version named indexIn numberOf layoutIn header headerFor
+  unfolding version named indexIn numberOf layoutIn headerFor
   same-version = ap (λ (r : List ℕ). getD r 0 0) header-row ∙ header-stays Writing (headerFor ls) (w .header) 0 (omega arith)
 
   -- ---- the counts

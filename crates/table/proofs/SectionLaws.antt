@@ -21,7 +21,7 @@ use Rattle.layout.specs.declared.Way.the-variants.{Reading}
 use Rattle.layout.specs.Layout.{layout, kindOf, blank, widths, size}
 use Rattle.layout.specs.Fields.{meaning, convert}
 use Rattle.base.specs.Tests.{numberOr0}
-use Rattle.layout.specs.Rows.{converted, listed}
+use Rattle.layout.specs.Rows.{converted, listedIn, listed}
 use Rattle.layout.proofs.LayoutLaws.{listed-fields, listed-same, unlisted, whole-bytes, size-most}
 use Rattle.layout.proofs.ReadLaws.{count-lt}
 use Rattle.layout.proofs.RowLaws.{length-converted, converted-at}
@@ -29,7 +29,7 @@ use Rattle.layout.proofs.RoomLaws.{room-yes, row-there}
 use Rattle.table.specs.Sections.{headerRow, version, kindIn, rows, from, row, recordOf, records}
 
 -- ---- padding means 0
-padding-means : (s k n : ℕ) → listed s ≤ k → numberOr0 (convert Reading (getD (layout s) k blank) n) ≡ 0
+padding-means : (s k n : ℕ) → listedIn (layout s) ≤ k → numberOr0 (convert Reading (getD (layout s) k blank) n) ≡ 0
 unfolding convert meaning numberOr0
 padding-means s k n h = ap (λ (kind : Kind). numberOr0 (meaning kind n)) (unlisted s k h) ∙ go (eqb n 0)
   where
@@ -37,24 +37,26 @@ padding-means s k n h = ap (λ (kind : Kind). numberOr0 (meaning kind n)) (unlis
     go true = refl
     go false = refl
 
-pub padding-at : (s k : ℕ) (raw : List ℕ) → listed s ≤ k → k < length (layout s) → getD (converted Reading (layout s) raw) k 0 ≡ 0
+pub padding-at : (s k : ℕ) (raw : List ℕ) → listedIn (layout s) ≤ k → k < length (layout s) → getD (converted Reading (layout s) raw) k 0 ≡ 0
 padding-at s k raw h l = converted-at Reading (layout s) raw k l ∙ padding-means s k (getD raw k 0) h
 
 -- so a row that is meant is what the lists have of it, and zeros
 pub padded : (s : ℕ) (raw : List ℕ)
-    → take (listed s) (converted Reading (layout s) raw) ++ replicate (length (layout s) - listed s) 0 ≡ converted Reading (layout s) raw
+    → take (listedIn (layout s)) (converted Reading (layout s) raw) ++ replicate (length (layout s) - listedIn (layout s)) 0
+    ≡ converted Reading (layout s) raw
 padded s raw =
+    let l = listedIn (layout s) in
     let vs = converted Reading (layout s) raw in
     let n = length-converted Reading (layout s) raw in
-    let m = length-drop (listed s) vs in
-    let zeros : drop (listed s) vs ≡ replicate (length (layout s) - listed s) 0 =
-    ext-getD 0 (drop (listed s) vs) (replicate (length (layout s) - listed s) 0)
-    (m ∙ rw n (sym (length-replicate {A = ℕ} (length (layout s) - listed s) 0)))
+    let m = length-drop l vs in
+    let zeros : drop l vs ≡ replicate (length (layout s) - l) 0 =
+    ext-getD 0 (drop l vs) (replicate (length (layout s) - l) 0)
+    (m ∙ rw n (sym (length-replicate {A = ℕ} (length (layout s) - l) 0)))
     (λ i h.
-    getD-drop (listed s) vs i 0
-    ∙ padding-at s (listed s + i) raw (omega arith) (omega arith)
-    ∙ sym (getD-replicate (length (layout s) - listed s) i 0 0 (omega arith))) in
-    ap (λ (zs : List ℕ). take (listed s) vs ++ zs) (sym zeros) ∙ take-append-drop (listed s) vs
+    getD-drop l vs i 0
+    ∙ padding-at s (l + i) raw (omega arith) (omega arith)
+    ∙ sym (getD-replicate (length (layout s) - l) i 0 0 (omega arith))) in
+    ap (λ (zs : List ℕ). take l vs ++ zs) (sym zeros) ∙ take-append-drop l vs
 
 -- and of any version, as all have the same numbers in the lists
 pub padded-in : (v s : ℕ) (raw : List ℕ)

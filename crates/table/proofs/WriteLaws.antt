@@ -19,7 +19,7 @@ use Rattle.bits.proofs.TableLaws.{table-back, table-carried, length-put-table, 
 use Rattle.layout.specs.declared.Way.the-variants.{Writing}
 use Rattle.layout.specs.Layout.{layout, widths, size}
 use Rattle.layout.specs.Rows.{converted, listed, rowFault}
-use Rattle.layout.proofs.LayoutLaws.{fields-are, listed-fields, listed-same, header-kind}
+use Rattle.layout.proofs.LayoutLaws.{header-fields, listed-fields, listed-same, header-kind}
 use Rattle.table.specs.Lists.{Lists, listFor, recordsIn, versionFor, kindFor}
 use Rattle.table.specs.Write.{headerFor, meantRow, storedRows, sectionOf, sections, parts, tableSize, packed}
 use Rattle.table.proofs.AnswerLaws.{Writable}
@@ -154,7 +154,7 @@ module _ (ls : Lists) where
 
     pub length-meant : (s i : ℕ) → s < 6 → i < count ls s → length (meant ls s i) ≡ length (layout (kindFor ls s))
     unfolding count meant meantRow headerFor
-    length-meant zero i h l = sym (ap (λ (k : ℕ). length (layout k)) (header-kind v) ∙ fields-are 0)
+    length-meant zero i h l = sym (ap (λ (k : ℕ). length (layout k)) (header-kind v) ∙ header-fields)
     length-meant (suc s) i h l =
         let zeros : List ℕ = replicate (length (layout (kindFor ls (suc s))) - listed (suc s)) 0 in
         omega (

@@ -7,7 +7,7 @@ use native.Mathlib.Omega.{arith}
 use native.Mathlib.Nat.{mul-le-mul}
 use lib.ListN.{length, take}
 use Rattle.layout.specs.Rows.{listed}
-use Rattle.layout.proofs.LayoutLaws.{listed-fields, few-fields}
+use Rattle.layout.proofs.LayoutLaws.{listed-most}
 use Rattle.text.specs.Text.{Puts}
 use Rattle.text.proofs.PutLaws.{puts-whole, length-puts}
 
@@ -16,5 +16,5 @@ stands b r a xs long fits p = (puts-whole b xs r a (omega arith) p, length-puts 
 
 pub place-small : (i s : ℕ) → i < 1024 → i * listed s + listed s ≤ 11264
 place-small i s h =
-    let few : listed s ≤ 11 = omega (arith, listed-fields s, few-fields s) in
+    let few = listed-most s in
     omega (arith, mul-le-mul {n₁ = i} {m₁ = listed s} {n₂ = 1023} {m₂ = 11} (omega arith) few, few)

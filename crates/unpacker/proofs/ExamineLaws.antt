@@ -17,7 +17,7 @@ use Rattle.base.specs.Tests.{isSome}
 use Rattle.layout.specs.Contracts.{wide, faultOf}
 use Rattle.layout.specs.Rows.{rowFault}
 use Rattle.layout.proofs.FaultLaws.{fault-wide}
-use Rattle.layout.proofs.ReadLaws.{some-number, no-number, test-given, nothing-given}
+use Rattle.layout.proofs.ToldLaws.{fault-test, fault-nothing, some-told, none-told, number-told}
 use Rattle.table.specs.declared.Answer.{Answer}
 use Rattle.table.specs.Answers.{answer, accepted, firstGiven}
 use Rattle.table.specs.Sections.{headerRow, kindIn, rows, from, row}
@@ -48,10 +48,10 @@ module _ (bytes : List ℕ) where
           ∙ fault-wide Reading (kindIn bytes s) (row bytes s i))
 
       pub test-told : (test : ℕ) → x ≡ Test test → answer 4 s i test ≡ answerOf bytes s i
-      test-told test e = row-bad test (fault-told ∙ test-given x test e)
+      test-told test e = row-bad test (fault-told ∙ ap faultOf e ∙ fault-test test)
 
       pub nothing-told : x ≡ Nothing → accepted ≡ answerOf bytes s i
-      nothing-told e = row-good (fault-told ∙ nothing-given x e)
+      nothing-told e = row-good (fault-told ∙ ap faultOf e ∙ fault-nothing)
 
     -- whether the row has a fault, by the number of its answer
     row-was : answerOf bytes s i .number ≡ 0 → fault ≡ none
@@ -77,17 +77,17 @@ module _ (bytes : List ℕ) where
         go : (o : Option ℕ) → rowFault Reading (kindIn bytes s) (row bytes s i) ≡ o → answerOf bytes s i ≡ answerIn bytes s
         go none e = absurd (some-is (ap (λ (a : Answer). a .number) (sym (row-good s i e))))
         go (some test) e =
-            let was = some-number (rowFault Reading (kindIn bytes s) (row bytes s i)) test e in
+            let fault = rowFault Reading (kindIn bytes s) (row bytes s i) in
             let first : badRow bytes s ≡ some i =
-            least-is (λ i. isSome (rowFault Reading (kindIn bytes s) (row bytes s i))) 0 (rows bytes s) i (omega arith) (omega arith) (was .0)
-            (λ j _ l. no-number (rowFault Reading (kindIn bytes s) (row bytes s j)) (good j l)) in
-            sym (row-bad s i test e) ∙ sym (rw (first, answerIn) (ap (answer 4 s i) (was .1)))
+            least-is (λ i. isSome (rowFault Reading (kindIn bytes s) (row bytes s i))) 0 (rows bytes s) i (omega arith) (omega arith) (some-told fault test e)
+            (λ j _ l. none-told (rowFault Reading (kindIn bytes s) (row bytes s j)) (good j l)) in
+            sym (row-bad s i test e) ∙ sym (rw (first, answerIn) (ap (answer 4 s i) (number-told fault test e)))
 
     section-clean : GoodTo (rows bytes s) → badRow bytes s ≡ none
     unfolding badRow
     section-clean good =
         least-none (λ i. isSome (rowFault Reading (kindIn bytes s) (row bytes s i))) 0 (rows bytes s)
-        (λ j _ l. no-number (rowFault Reading (kindIn bytes s) (row bytes s j)) (good j (omega arith)))
+        (λ j _ l. none-told (rowFault Reading (kindIn bytes s) (row bytes s j)) (good j (omega arith)))
 
     pub section-good : GoodTo (rows bytes s) → accepted ≡ answerIn bytes s
     unfolding answerIn
@@ -133,17 +133,17 @@ module _ (bytes : List ℕ) where
         go : (o : Option ℕ) → badRow bytes s ≡ o → answerIn bytes s ≡ lastAnswer bytes
         go none e = absurd (some-is (ap (λ (a : Answer). a .number) (section-none s e)))
         go (some i) e =
-            let was = some-number (badRow bytes s) i e in
             let first : badSection bytes ≡ some s =
-            least-is (λ s. isSome (badRow bytes s)) 1 5 s low (omega arith) (was .0) (λ j a b. no-number (badRow bytes j) (clean j a b)) in
-            let given : answer4 bytes ≡ some (answerAtRow bytes s i) = rw (first, answer4, was .1) in
+            least-is (λ s. isSome (badRow bytes s)) 1 5 s low (omega arith) (some-told (badRow bytes s) i e)
+            (λ j a b. none-told (badRow bytes j) (clean j a b)) in
+            let given : answer4 bytes ≡ some (answerAtRow bytes s i) = rw (first, answer4, number-told (badRow bytes s) i e) in
             section-is s i e ∙ sym (last-is (some (answerAtRow bytes s i)) given)
 
     pub table-good : CleanTo 6 → accepted ≡ lastAnswer bytes
     unfolding answer4 badSection firstGiven
     table-good clean =
         let first : badSection bytes ≡ none =
-        least-none (λ s. isSome (badRow bytes s)) 1 5 (λ j a b. no-number (badRow bytes j) (clean j a (omega arith))) in
+        least-none (λ s. isSome (badRow bytes s)) 1 5 (λ j a b. none-told (badRow bytes j) (clean j a (omega arith))) in
         let given : answer4 bytes ≡ none = rw (first, answer4) in
         sym (last-is none given)
 
@@ -164,13 +164,13 @@ module _ (bytes : List ℕ) where
       pub header-bad : (test : ℕ) → x ≡ Test test → answer 2 0 0 test ≡ tableAnswer bytes
       unfolding answer2 firstGiven
       header-bad test e =
-          let f = header-told ∙ test-given x test e in
+          let f = header-told ∙ ap faultOf e ∙ fault-test test in
           let given : answer2 bytes ≡ some (answer 2 0 0 test) = rw (f, answer2) in
           sym (after-1 (some (answer 2 0 0 test)) given)
 
       pub header-good : x ≡ Nothing → lastAnswer bytes ≡ tableAnswer bytes
       unfolding answer2 lastAnswer firstGiven
       header-good e =
-          let f = header-told ∙ nothing-given x e in
+          let f = header-told ∙ ap faultOf e ∙ fault-nothing in
           let given : answer2 bytes ≡ none = rw (f, answer2) in
           sym (after-1 none given)

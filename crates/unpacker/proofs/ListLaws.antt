@@ -10,10 +10,10 @@ use lib.ListN.{length, getD, take, set, replicate, length-append, length-replica
 use lib.Seq.{take-suc, length-take-le}
 use Rattle.layout.specs.declared.Way.the-variants.{Reading}
 use Rattle.layout.specs.Names.{numberOf, indexIn}
-use Rattle.layout.specs.Layout.{header as headerShapes, layoutIn, layout, kindOf, headerNames}
+use Rattle.layout.specs.Layout.{layoutIn, layout, kindOf, headerNames}
 use Rattle.layout.specs.Contracts.{wide}
 use Rattle.layout.specs.Rows.{named, converted, listed}
-use Rattle.layout.proofs.LayoutLaws.{listed-fields, listed-same, few-fields}
+use Rattle.layout.proofs.LayoutLaws.{listed-fields, listed-same, few-fields, listed-most}
 use Rattle.layout.proofs.ReadLaws.{part-wide}
 use Rattle.layout.proofs.RowLaws.{wide-at, length-wide, take-wide, length-converted, converted-wide}
 use Rattle.table.specs.Sections.{headerRow, version, kindIn, row, recordOf, records, lent}
@@ -37,7 +37,7 @@ written-lent n xs a row (suc k) e h l =
 -- ---- the numbers of i records
 pub numbers-most : (i s n : ℕ) → i < 4096 → n ≡ listed s → (i * n ≤ 45056) × (n ≤ 11)
 numbers-most i s n h e =
-    let few : n ≤ 11 = omega (arith, listed-fields s, few-fields s) in
+    let few : n ≤ 11 = omega (arith, listed-most s) in
     (mul-le-mul {n₁ = i} {n₂ = 4096} (omega arith) few, few)
 
 pub cleared-length : (out : List ℕ) (n : ℕ) → out ≡ replicate n 0 → length out ≡ n
@@ -118,7 +118,7 @@ header-in bytes = rw (converted-wide Reading (layout 0) (headerRow bytes))
 -- as an array: the numbers of the converted row at their places, and zeros
 pub header-wide : (header row : List ℕ) → row ≡ wide (converted Reading (layout 0) header)
     → getD row 0 0 ∷ getD row 6 0 ∷ getD row 7 0 ∷ getD row 8 0 ∷ getD row 9 0 ∷ 0 ∷ 0 ∷ 0 ∷ 0 ∷ 0 ∷ 0 ∷ [] ≡ wide (headerIn header)
-unfolding headerIn wide named indexIn numberOf layoutIn headerShapes
+unfolding headerIn wide named indexIn numberOf layoutIn
 header-wide header row e =
     let number : (k : ℕ) → getD row k 0 ≡ getD (converted Reading (layout 0) header) k 0 = λ k. ap (λ (r : List ℕ). getD r k 0) e ∙ wide-at (converted Reading (layout 0) header) k in
     λ i. number 0 i ∷ number 6 i ∷ number 7 i ∷ number 8 i ∷ number 9 i ∷ 0 ∷ 0 ∷ 0 ∷ 0 ∷ 0 ∷ 0 ∷ []

@@ -13,7 +13,7 @@ use Rattle.bits.proofs.StepLaws.{rows-one, table-step, table-done}
 use Rattle.layout.specs.declared.Way.the-variants.{Writing}
 use Rattle.layout.specs.Layout.{layout, widths, size}
 use Rattle.layout.specs.Rows.{converted, rowFault}
-use Rattle.layout.proofs.LayoutLaws.{whole-bytes, size-most, fields-are}
+use Rattle.layout.proofs.LayoutLaws.{whole-bytes, size-most, header-fields}
 use Rattle.layout.proofs.BackLaws.{written-readable, written-read}
 use Rattle.layout.specs.Limits.{most}
 use Rattle.layout.proofs.SizeLaws.{most-are}
@@ -37,7 +37,7 @@ module _ (ls : Lists) where
   unfolding headerFor tableSize
   short good =
       let plain =
-      subst PlainHeader (written-read 0 (headerFor ls) good (sym (fields-are 0)))
+      subst PlainHeader (written-read 0 (headerFor ls) good (sym (header-fields)))
       (header-plain (converted Writing (layout 0) (headerFor ls)) (written-readable 0 (headerFor ls) good)) in
       let few : (s n : ℕ) → suc s < 6 → n ≤ most (suc s) → n * size (kindFor ls (suc s)) ≤ most (suc s) * 14 = λ s n h l. mul-le-mul l (size-most (kindFor ls (suc s))) in
       omega (

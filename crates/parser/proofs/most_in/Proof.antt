@@ -1,7 +1,7 @@
 -- `parser::most_in` meets its contract: whole records of each section.
 -- Assumes nothing.
 use mathlib.Core.Path.{refl}
-use Rattle.layout.specs.Layout.{layoutIn, header, endSystem, vl, stream, port, hop}
+use Rattle.layout.specs.Layout.{layoutIn, kindsOf, kindOf}
 use Rattle.layout.specs.Fields.{isPadding}
 use Rattle.layout.specs.Rows.{listedIn, listed}
 use Rattle.notation.specs.Steps.{fieldsOf}
@@ -11,7 +11,7 @@ use Rattle.parser.proofs.most_in.Statement.{statement}
 use Rattle.parser.proofs.most_in.Tie as tie
 
 returns : tie.Need-returns
-unfolding mostFor fieldsOf listed listedIn isPadding layoutIn header endSystem vl stream port hop
+unfolding mostFor fieldsOf listed listedIn isPadding kindOf kindsOf layoutIn
 returns c = rw (c .delay-lines .ensures) refl
 
 pub most-in-spec : {M : Type 1} → statement M

@@ -9,7 +9,7 @@ use lib.Seq.{take-all, length-take-le}
 use Rattle.layout.specs.Layout.{size}
 use Rattle.layout.specs.Rows.{rowAt}
 use Rattle.layout.specs.Contracts.{wide}
-use Rattle.layout.proofs.LayoutLaws.{size-is}
+use Rattle.layout.proofs.LayoutLaws.{header-size}
 use Rattle.table.specs.Sections.{headerRow}
 use borrow.Author.Needs.{needs}
 use Rattle.unpacker.proofs.examine.header_of.Statement.{statement}
@@ -22,13 +22,13 @@ slice-aggregate-row-at c =
 
 returns : tie.Need-returns
 unfolding headerRow
-returns c = c .row-at .ensures ∙ ap (λ (n : ℕ). wide (rowAt (take n (c .before .before .before .before .args .table .now)) 0 0)) (sym (size-is 0))
+returns c = c .row-at .ensures ∙ ap (λ (n : ℕ). wide (rowAt (take n (c .before .before .before .before .args .table .now)) 0 0)) (sym (header-size))
 
 returns-2 : tie.Need-returns-2
 unfolding headerRow
 returns-2 c =
     let a = c .before .before .before .args in
-    c .row-at2 .ensures ∙ ap (λ (b : List ℕ). wide (rowAt b 0 0)) (sym (take-all (size 0) (a .table .now) (omega (arith, size-is 0))))
+    c .row-at2 .ensures ∙ ap (λ (b : List ℕ). wide (rowAt b 0 0)) (sym (take-all (size 0) (a .table .now) (omega (arith, header-size))))
 
 pub header-of-spec : {M : Type 1} → statement M
 header-of-spec =

@@ -7,7 +7,7 @@ use native.Mathlib.Omega.{arith}
 use lib.ListN.{length, take}
 use Rattle.layout.specs.Contracts.{wide}
 use Rattle.layout.specs.Rows.{listed}
-use Rattle.layout.proofs.LayoutLaws.{few-fields, listed-fields}
+use Rattle.layout.proofs.LayoutLaws.{listed-most}
 use Rattle.layout.proofs.RowLaws.{wide-start}
 use Rattle.layout.proofs.TurnLaws.{filled-more, filled-all}
 use Rattle.writer.specs.Writing.{listNumbers}
@@ -28,9 +28,7 @@ inside c = record-inside (c .args .list .now) (c .args .section) (c .args .i) (c
 
 -- and it has at most eleven numbers
 few-numbers : (c : tie.After-numbers-in Inv-loop μ-loop) → c .numbers-in .result ≤ 11
-few-numbers c =
-    let section = c .before .before .args .section in
-    omega (arith, c .numbers-in .ensures, listed-fields section .0, few-fields section)
+few-numbers c = omega (arith, c .numbers-in .ensures, listed-most (c .before .before .args .section))
 
 mul-first : tie.Need-mul-first Inv-loop μ-loop
 mul-first c = rw (c .numbers-in .ensures) (omega (arith, inside (c .before .before)))

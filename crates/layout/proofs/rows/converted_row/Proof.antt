@@ -1,0 +1,74 @@
+-- `layout::rows::converted_row` meets its contract: after k turns the first k numbers stand in the array.
+-- Assumes nothing.
+use mathlib.Core.Path.{_≡_, sym}
+use Prim.Native.Nat.{_-_, _≤_}
+use native.Mathlib.Omega.{arith}
+use lib.ListN.{take}
+use mathlib.Core.List.{[]}
+use Rattle.layout.specs.Layout.{layout}
+use Rattle.layout.specs.Contracts.{wide}
+use Rattle.layout.specs.Rows.{converted}
+use Rattle.layout.proofs.LayoutLaws.{few-fields, narrow}
+use Rattle.layout.proofs.RowLaws.{length-converted, wide-start}
+use Rattle.layout.proofs.TurnLaws.{filled-more, filled-all, number-more}
+use borrow.Author.Needs.{needs}
+use Rattle.layout.proofs.rows.converted_row.Statement.{statement}
+use Rattle.layout.proofs.rows.converted_row.Tie as tie
+
+abbrev Inv-loop : tie.InvT-loop
+Inv-loop way kind row n out₀ k₀ out k = (k ≤ n) × (out ≡ wide (take k (converted way (layout kind) row)))
+
+abbrev μ-loop : tie.MeasureT-loop
+μ-loop way kind row n out₀ k₀ out k = n - k
+
+loop-holds : tie.Need-loop-holds Inv-loop μ-loop
+loop-holds c = (omega arith, sym (wide-start []))
+
+mul-convert-field : tie.Need-mul-convert-field Inv-loop μ-loop
+mul-convert-field c = omega (arith, few-fields (c .before .before .before .before .args .kind))
+
+array-read-convert-field : tie.Need-array-read-convert-field Inv-loop μ-loop
+array-read-convert-field c = omega (arith, few-fields (c .before .before .before .before .args .kind))
+
+convert-field-requires : tie.Need-convert-field-requires Inv-loop μ-loop
+convert-field-requires c κs = rw (c .shape-at .ensures) (narrow (c .before .before .before .before .args .kind) (c .before .before .loop .k))
+
+mul-out : tie.Need-mul-out Inv-loop μ-loop
+mul-out c = omega (arith, few-fields (c .before .before .before .before .before .before .args .kind))
+
+array-write-out : tie.Need-array-write-out Inv-loop μ-loop
+array-write-out c = omega (arith, few-fields (c .before .before .before .before .before .before .args .kind))
+
+loop-again : tie.Need-loop-again Inv-loop μ-loop
+loop-again c =
+    let a = c .before .before .before .before .before .before .args in
+    let l = c .before .before .before .before .loop in
+    let row = converted (a .way) (layout (a .kind)) (a .t3) in
+    let n = length-converted (a .way) (layout (a .kind)) (a .t3) in
+    let v = number-more (a .way) (a .kind) (a .t3) (l .k) _ _ (c .before .before .shape-at .ensures) (c .before .convert-field .ensures) _ (omega arith) (c .value-or-0 .ensures) in
+    (omega arith, filled-more row _ (l .k) _ (omega (arith, few-fields (a .kind))) (omega arith) (l .inv .1) v)
+
+returns : tie.Need-returns Inv-loop μ-loop
+returns c =
+    let a = c .before .before .before .args in
+    filled-all _ _ (c .before .loop .k) (omega (arith, length-converted (a .way) (layout (a .kind)) (a .t3))) (c .before .loop .inv .1)
+
+pub converted-row-spec : {M : Type 1} → statement M
+converted-row-spec =
+    tie.close
+    (tie.spec
+    Inv-loop
+    μ-loop
+    (λ c κs. search needs)
+    loop-holds
+    (λ c κs. search needs)
+    mul-convert-field
+    array-read-convert-field
+    convert-field-requires
+    (λ c κs. search needs)
+    mul-out
+    array-write-out
+    (λ c. search needs)
+    (λ c. search needs)
+    loop-again
+    returns)

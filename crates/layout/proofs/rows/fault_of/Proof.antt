@@ -1,0 +1,74 @@
+-- `layout::rows::fault_of` meets its contract: after k turns the first k fields are in range.
+-- Assumes nothing.
+use mathlib.Core.Path.{sym, _∙_}
+use Prim.Native.Nat.{_-_, _≤_}
+use native.Mathlib.Omega.{arith}
+use Rattle.layout.specs.Contracts.{faultOf}
+use Rattle.layout.proofs.LayoutLaws.{few-fields, narrow}
+use Rattle.layout.proofs.FaultLaws.{GoodTo, fault-field, fault-order}
+use Rattle.layout.proofs.TurnLaws.{refused-here, good-more}
+use borrow.Author.Needs.{needs}
+use Rattle.layout.proofs.rows.fault_of.Statement.{statement}
+use Rattle.layout.proofs.rows.fault_of.Tie as tie
+
+abbrev Inv-loop : tie.InvT-loop
+Inv-loop way kind row n k₀ k = (k ≤ n) × GoodTo way kind row k
+
+abbrev μ-loop : tie.MeasureT-loop
+μ-loop way kind row n k₀ k = n - k
+
+loop-holds : tie.Need-loop-holds Inv-loop μ-loop
+loop-holds c = (omega arith, (λ i h. absurd (omega arith)))
+
+mul-convert-field : tie.Need-mul-convert-field Inv-loop μ-loop
+mul-convert-field c = omega (arith, few-fields (c .before .before .before .before .args .kind))
+
+array-read-convert-field : tie.Need-array-read-convert-field Inv-loop μ-loop
+array-read-convert-field c = omega (arith, few-fields (c .before .before .before .before .args .kind))
+
+convert-field-requires : tie.Need-convert-field-requires Inv-loop μ-loop
+convert-field-requires c κs = rw (c .shape-at .ensures) (narrow (c .before .before .before .before .args .kind) (c .before .before .loop .k))
+
+returns : tie.Need-returns Inv-loop μ-loop
+unfolding faultOf
+returns c =
+    let a = c .before .before .before .before .before .before .before .args in
+    let l = c .before .before .before .before .before .loop in
+    sym
+    (fault-field (a .way) (a .kind) (a .t3) (l .k) (omega arith) (l .inv .1)
+    (refused-here (a .way) (a .kind) (a .t3) (l .k) _ _ (c .before .before .before .shape-at .ensures) (c .before .before .convert-field .ensures)
+    (sym (c .before .is-refused .ensures) ∙ c .if1 .taken)))
+
+loop-again : tie.Need-loop-again Inv-loop μ-loop
+loop-again c =
+    let a = c .before .before .before .before .before .before .before .args in
+    let l = c .before .before .before .before .before .loop in (
+      omega arith,
+      good-more (a .way) (a .kind) (a .t3) (l .k) _ _ (c .before .before .before .shape-at .ensures) (c .before .before .convert-field .ensures) (l .inv .1)
+          (sym (c .before .is-refused .ensures) ∙ c .if1 .left),
+    )
+
+returns-2 : tie.Need-returns-2 Inv-loop μ-loop
+returns-2 c =
+    let a = c .before .before .before .before .args in
+    c .order-fault .ensures ∙ sym (fault-order (a .way) (a .kind) (a .t3) (λ i h. c .before .before .loop .inv .1 i (omega arith)))
+
+pub fault-of-spec : {M : Type 1} → statement M
+fault-of-spec =
+    tie.close
+    (tie.spec
+    Inv-loop
+    μ-loop
+    (λ c κs. search needs)
+    loop-holds
+    (λ c κs. search needs)
+    mul-convert-field
+    array-read-convert-field
+    convert-field-requires
+    (λ c κs. search needs)
+    returns
+    (λ c. search needs)
+    (λ c. search needs)
+    loop-again
+    (λ c κs. search needs)
+    returns-2)
