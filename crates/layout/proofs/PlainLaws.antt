@@ -70,7 +70,6 @@ pair-in kind raw ok a b e =
 
 -- ---- header
 pub record PlainHeader (vs : List ℕ) : Type 0 where
-  pub version : named 0 vs name.Version ≡ 1
   -- field s counts the records of section s
   pub counts : (s : ℕ) → suc s < 6 → getD vs (suc s) 0 ≤ most (suc s)
   pub send-least : named 0 vs name.SendLeast ≤ named 0 vs name.SendGreatest
@@ -98,7 +97,6 @@ header-plain raw ok =
     let u = n 8 (omega arith) 0 1875 refl in
     let v = n 9 (omega arith) 0 1875 refl in
     record {
-      version = omega (arith, n 0 (omega arith) 1 1 refl);
       counts = header-counts raw ok;
       send-least = omega arith;
       send-greatest = t .1;

@@ -168,11 +168,13 @@ module _ (lists : ℕ → List ℕ) (a : Acceptable lists) where
   unfolding counts
   counts-known = length-tabulate (λ s. length (lists (suc s)) / listed (suc s)) 5
 
-  version-one : getD (lists 0) 0 1 ≤ 1
+  version-small : getD (lists 0) 0 1 ≤ 255
   unfolding headerOf counts layoutIn greatest
-  version-one =
+  version-small =
+      let most =
       rw (head-version (lists 0) counts (a .head) counts-known) at
-      (accepted-most (getD (layout 0) 0 blank) _ _ (faultless Writing 0 (headerOf lists) (a .header) .fields 0 (omega arith)))
+      (accepted-most (getD (layout 0) 0 blank) _ _ (faultless Writing 0 (headerOf lists) (a .header) .fields 0 (omega arith))) in
+      omega arith
 
   delays-said : Sayable (lineFields (getD (lists 0) 0 1) 0) (drop 1 (lists 0))
   unfolding headerOf counts
@@ -182,7 +184,7 @@ module _ (lists : ℕ → List ℕ) (a : Acceptable lists) where
 
 pub accepted-printable : AcceptedPrintable
 accepted-printable lists a = record {
-  version = omega (arith, version-one lists a);
+  version = omega (arith, version-small lists a);
   delays = delays-said lists a;
   whole = a .whole;
   records = λ s i low high h.

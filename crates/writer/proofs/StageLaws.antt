@@ -37,7 +37,7 @@ module _ (ls : Lists) where
   unfolding headerFor tableSize
   short good =
       let plain =
-      subst PlainHeader (written-read 0 (headerFor ls) good (sym (header-fields)))
+      subst PlainHeader (written-read 0 (headerFor ls) good (sym header-fields))
       (header-plain (converted Writing (layout 0) (headerFor ls)) (written-readable 0 (headerFor ls) good)) in
       let few : (s n : ℕ) → suc s < 6 → n ≤ most (suc s) → n * size (kindFor ls (suc s)) ≤ most (suc s) * 14 = λ s n h l. mul-le-mul l (size-most (kindFor ls (suc s))) in
       omega (

@@ -1,21 +1,21 @@
 -- `layout::kinds::kind_of` meets its contract: so far each version has the kinds of version 1, and there is none after the last section.
 -- Assumes nothing.
 use mathlib.Core.Path.{_≡_, sym}
-use mathlib.Core.List.{[]}
 use Prim.Native.Nat.{ℕ, _≤_, _<_}
 use native.Mathlib.Omega.{arith}
-use lib.Dec.{eqb, eqb→eq}
+use lib.Dec.{T, eqb, eqb→eq}
 use lib.ListN.{length, getD, List·getD-eq-default}
-use Rattle.base.proofs.Every.{at}
-use Rattle.layout.specs.Layout.{versions, kindsOf, kindOf}
+use Rattle.base.proofs.Every.{every, at}
+use Rattle.layout.specs.Layout.{kindsOf, kindOf}
 use Rattle.layout.proofs.LayoutLaws.{every-version}
 use Rattle.layout.proofs.kinds.kind_of.Statement.{statement}
 use Rattle.layout.proofs.kinds.kind_of.Tie as tie
 
 kind-first : (version s : ℕ) → s < 6 → kindOf version s ≡ s
 unfolding kindOf
-kind-first = every-version (λ ks. (s : ℕ) → s < 6 → getD ks s 6 ≡ s)
-    ((λ s h. eqb→eq _ _ (at (λ k. eqb (getD (getD versions 0 []) k 6) k) 6 tt s h)), tt)
+kind-first version s h =
+    let all = every-version (λ ks. T (every (λ k. eqb (getD ks k 6) k) 6)) (search) version in
+    eqb→eq _ _ (at (λ k. eqb (getD (kindsOf version) k 6) k) 6 all s h)
 
 kind-past : (version s : ℕ) → 6 ≤ s → kindOf version s ≡ 6
 unfolding kindOf
