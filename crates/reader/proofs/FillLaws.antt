@@ -16,7 +16,7 @@ use Rattle.base.proofs.Tests.{within-yes}
 use Rattle.layout.specs.Names.{numberOf, indexIn}
 use Rattle.layout.specs.Rows.{named, listed}
 use Rattle.layout.specs.Limits.{most}
-use Rattle.layout.specs.Layout.{vl, layoutIn, headerNames}
+use Rattle.layout.specs.Layout.{layoutIn, headerNames}
 use Rattle.layout.specs.Sizes.{capacity, place}
 use Rattle.layout.proofs.LayoutLaws.{listed-is}
 use Rattle.layout.proofs.SizeLaws.{place-le}
@@ -90,7 +90,7 @@ module _ (bytes : List ℕ) (sound : Sound bytes) where
 
   -- ---- the numbers of a VL are small
   below : (vs : List ℕ) → PlainVl vs → (j : ℕ) → j < 4 → getD vs j 0 < 65536
-  unfolding named indexIn numberOf layoutIn vl
+  unfolding named indexIn numberOf layoutIn
   below vs p zero h = omega (arith, p .end-system)
   below vs p (suc zero) h = omega (arith, p .gap-greatest)
   below vs p (suc (suc zero)) h = omega (arith, p .sub-links-greatest)

@@ -14,7 +14,7 @@ use Rattle.base.proofs.TabulateLaws.{length-tabulate, tabulate-same, tabulate-s
 use Rattle.frame.specs.Tick.{perMs, perUnit, inForce}
 use Rattle.frame.proofs.TickLaws.{per-unit-is}
 use Rattle.layout.specs.Names.{numberOf, indexIn}
-use Rattle.layout.specs.Layout.{endSystem, vl, stream, port, hop, layoutIn}
+use Rattle.layout.specs.Layout.{layoutIn}
 use Rattle.layout.specs.Limits.{most}
 use Rattle.layout.specs.Rows.{named, listed}
 use Rattle.layout.specs.Sizes.{countPlace, place}
@@ -76,7 +76,7 @@ module _ (counts : ℕ → ℕ) (sheet : List ℕ) where
   module _ (i at : ℕ) where
     pub system-read : (x : ℕ) → place 1 ≡ at → i < counts 1 → x ≡ ticksAt inForce (getD sheet (at + i * 1 + 0) 0)
         → _≡_ {A = EndSystem} (record { perbyte = x }) (systemAt (networkOf (listsTo counts sheet)) i)
-    unfolding systemIn named indexIn numberOf layoutIn endSystem tabulate readAs
+    unfolding systemIn named indexIn numberOf layoutIn tabulate readAs
     system-read x p h is =
         (λ j. record { perbyte = is j })
         ∙ ap (systemIn inForce) (row-is 0 i at 1 (omega arith) p (listed-is 1) h)
@@ -91,7 +91,7 @@ module _ (counts : ℕ → ℕ) (sheet : List ℕ) where
           lmax = getD sheet (at + i * 4 + 3) 0 % 65536;
         })
         (vlAt (networkOf (listsTo counts sheet)) i)
-    unfolding vlIn named indexIn numberOf layoutIn vl tabulate readAs perMs
+    unfolding vlIn named indexIn numberOf layoutIn tabulate readAs perMs
     vl-read p h = ap (vlIn inForce) (row-is 1 i at 4 (omega arith) p (listed-is 2) h) ∙ sym (vl-there _ i (omega (arith, count-is 1 (omega arith))))
 
     pub stream-read : (x : Bool) → place 3 ≡ at → i < counts 3 → x ≡ eqb (getD sheet (at + i * 7 + 2) 0) 1
@@ -106,7 +106,7 @@ module _ (counts : ℕ → ℕ) (sheet : List ℕ) where
           jitter = getD sheet (at + i * 7 + 6) 0;
         })
         (streamAt (networkOf (listsTo counts sheet)) i)
-    unfolding streamIn named indexIn numberOf layoutIn stream tabulate readAs
+    unfolding streamIn named indexIn numberOf layoutIn tabulate readAs
     stream-read x p h is =
         let row = streamIn inForce (tabulate (λ k. getD sheet (at + i * 7 + k) 0) 7) in
         (λ j. record {
@@ -125,7 +125,7 @@ module _ (counts : ℕ → ℕ) (sheet : List ℕ) where
         → _≡_ {A = Port}
         (record { perbyte = x; least = getD sheet (at + i * 3 + 1) 0; greatest = getD sheet (at + i * 3 + 2) 0 })
         (portAt (networkOf (listsTo counts sheet)) i)
-    unfolding portIn named indexIn numberOf layoutIn port tabulate readAs
+    unfolding portIn named indexIn numberOf layoutIn tabulate readAs
     port-read x p h is =
         (λ j. record { perbyte = is j; least = in-units (getD sheet (at + i * 3 + 1) 0) j; greatest = in-units (getD sheet (at + i * 3 + 2) 0) j })
         ∙ ap (portIn inForce) (row-is 3 i at 3 (omega arith) p (listed-is 4) h)
@@ -135,7 +135,7 @@ module _ (counts : ℕ → ℕ) (sheet : List ℕ) where
         → _≡_ {A = Hop}
         (record { vl = getD sheet (at + i * 3 + 0) 0; port = getD sheet (at + i * 3 + 1) 0; parent = x })
         (hopAt (networkOf (listsTo counts sheet)) i)
-    unfolding hopIn named indexIn numberOf layoutIn hop tabulate readAs
+    unfolding hopIn named indexIn numberOf layoutIn tabulate readAs
     hop-read x p h is =
         (λ j. record { vl = getD sheet (at + i * 3 + 0) 0; port = getD sheet (at + i * 3 + 1) 0; parent = is j })
         ∙ ap hopIn (row-is 4 i at 3 (omega arith) p (listed-is 5) h)

@@ -1,4 +1,4 @@
-// What is tried: networks, limits, refusals, damage, and lists for the writer, all from a seed.
+// What is tried: networks, limits, refusals, damage, lists for the writer, texts; from a seed.
 // Stands on paper; nothing here names run.
 pub mod damage;
 pub mod edges;
@@ -10,6 +10,7 @@ pub mod random;
 pub mod raw;
 pub mod refusals;
 pub mod sizes;
+pub mod texts;
 pub mod tight;
 pub mod whole_case;
 pub mod writes;

@@ -5,9 +5,12 @@ mod cases;
 mod examples;
 mod machines;
 mod numbers;
+mod sentences;
 mod stations;
 mod streams;
 mod tables;
+mod texts;
+mod words;
 
 use std::fmt::Debug;
 
@@ -81,6 +84,17 @@ parts! {
         gate_stream_has_every_answer, gate_stream_has_every_case, gate_stream_has_every_size,
         gate_stream_has_every_short_list, gate_stream_has_every_bend,
         gate_stream_has_wrong_versions;
+    sentences: first_word_that_is_none, missing_field_is_named, word_that_is_no_number_is_shown,
+        kind_and_parent_have_their_words, word_too_many_is_shown, line_too_many_is_named,
+        number_out_of_range_is_shown, number_at_its_limit_packs, pair_out_of_order_is_named,
+        text_without_delays_or_too_long;
+    words: word_is_shown_as_the_page_says, blanks_and_comments_change_nothing,
+        no_other_byte_ends_a_word, first_wrong_line_is_named,
+        refusals_come_in_the_order_of_the_table;
+    texts: printed_text_packs_to_the_same_bytes, text_in_another_dress_packs_to_the_same_bytes,
+        whole_case_is_printed_as_the_page_says, bad_tables_are_printed_as_their_refusal,
+        edges_give_what_they_are_made_for, gate_texts_have_every_sentence, spoilt_texts_end,
+        bent_number_is_named_by_its_line;
     machines: least_run_takes_its_best_figure, second_packet_waits_one_gap,
         sub_links_take_turns, same_tick_order_is_kept, events_and_ticks_agree,
         unlawful_plans_are_seen, runs_keep_to_their_rows, wrong_rows_are_seen;
