@@ -10,7 +10,7 @@ use Rattle.base.proofs.TestLaws.{number-is}
 use Rattle.network.specs.Network.{Network, streamAt}
 use Rattle.network.specs.Views.{streamsOn}
 use Rattle.rows.specs.Queues.{queueFlow, queueFlows, queueLength}
-use Rattle.rows.specs.Rows.{queueOf, worst, best}
+use Rattle.rows.specs.Rows.{queueOf, worst}
 use Rattle.station.specs.Station.{brought, figure}
 use Rattle.station.proofs.Facts.{is-attained-to}
 use Rattle.machine.specs.Sound.{Sound, Has, Busy}
@@ -18,7 +18,7 @@ use Rattle.machine.specs.Messages.{Message, Packet}
 use Rattle.machine.specs.Machine.{Run, complete, state}
 use Rattle.machine.specs.Permitted.{PermittedBelow}
 use Rattle.machine.specs.Runs.{Came, Complete, Hands, Waited, Reaches, Continued}
-use Rattle.machine.specs.OverNetworks.{SentTo, Reached, Nothing-cut-off, Demand-3-over-networks}
+use Rattle.machine.specs.OverNetworks.{SentTo, No-earlier, Reached, Nothing-cut-off, Demand-3-over-networks}
 use Rattle.machine.proofs.Lists.Cases.{eq-both}
 use Rattle.machine.proofs.Stage.Select.{is-passing}
 use Rattle.machine.proofs.Network.Told.{good}
@@ -77,12 +77,6 @@ module _ (net : Network) (sound : Sound net) (busy : Busy net) where
         rw e at (came-too (more .run) r (λ u l. same u h (omega arith))
         (no-later net sound win (more .run) (more .permitted) n t m h (to-more t m h s) k hk))
 
-    earlier : (t : ℕ) (m : Message) (h : ℕ) → SentTo net r n t m h → (u : ℕ) → u < n → Complete net r m h u → t + best net (m .stream) h ≤ u
-    earlier t m h s u hu c =
-        let e = best-is net sound busy (m .stream) h (row t m h s) (s .row) (s .same-vl) in
-        rw e at (no-earlier net sound win (more .run) (more .permitted) n t m h (to-more t m h s) u
-        (λ k hk. came-too r (more .run) (λ t l. sym (same t h (omega arith))) (c k hk)))
-
     longer : (v t : ℕ) (x : Packet) → t < n → Hands net r v t x → Waited net r n x t (queueOf net (x .message .stream))
     longer v t x k e =
         let w = waits net sound win (more .run) (more .permitted) n v t x
@@ -94,6 +88,14 @@ module _ (net : Network) (sound : Sound net) (busy : Busy net) where
           not-before = w .not-before;
           at-most = w .at-most;
         }
+
+  earlier : No-earlier net
+  earlier r n per t m h s u hu c =
+      let on = more r n per in
+      let e = best-is net sound busy (m .stream) h (row r n per t m h s) (s .row) (s .same-vl) in
+      let b = no-earlier net sound win (on .run) (on .permitted) n t m h (to-more r n per t m h s) u
+      (λ k hk. came-too r n per r (on .run) (λ t l. sym (same r n per t h (omega arith))) (c k hk)) in
+      omega arith
 
   reaches : Reached net
   unfolding queueStation queueLength
