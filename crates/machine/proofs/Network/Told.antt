@@ -69,17 +69,11 @@ good net r per t m k =
     }
 
 -- each release has its message
-pub record Of (t i : ℕ) (xs : List Release) (x : Release) : Type 0 where
-  pub message : Message
-  pub there : List·Memᴰ message (messages t i xs)
-  pub stream : message .stream ≡ x .stream
-
-pub message-of : (t i : ℕ) (xs : List Release) (x : Release) → List·Memᴰ x xs → Of t i xs x
+pub message-of : (t i : ℕ) (xs : List Release) (x : Release) → List·Memᴰ x xs
+    → (m : Message) × List·Memᴰ m (messages t i xs) × (m .stream ≡ x .stream)
 message-of t i (y ∷ xs) x (List·Memᴰ·head e) =
-    record { message = record { released = t; place = i; stream = y .stream; size = y .size }; there = List·Memᴰ·head refl; stream = ap (λ (z : Release). z .stream) (sym e) }
-message-of t i (y ∷ xs) x (List·Memᴰ·tail m) =
-    let w = message-of t (suc i) xs x m in
-    record { message = w .message; there = List·Memᴰ·tail (w .there); stream = w .stream }
+    (record { released = t; place = i; stream = y .stream; size = y .size }, List·Memᴰ·head refl, ap (λ (z : Release). z .stream) (sym e))
+message-of t i (y ∷ xs) x (List·Memᴰ·tail m) = let w = message-of t (suc i) xs x m in (w .0, List·Memᴰ·tail (w .1), w .2)
 
 -- the message at place k says so
 pub message-at : (t i k : ℕ) (xs : List Release) (d : Message) → k < length xs → (getD (messages t i xs) k d .released ≡ t) × (getD (messages t i xs) k d .place ≡ i + k)

@@ -2,7 +2,7 @@
 -- Assumes nothing.
 use Prim.Native.Nat.{ℕ, zero, suc, _+_, _≤_, _<_, max}
 use mathlib.Core.Logic.{dite}
-use mathlib.Core.Path.{_≡_, refl, ap, _∙_}
+use mathlib.Core.Path.{_≡_, ap, _∙_}
 use native.Mathlib.Decide.{decLe}
 use native.Mathlib.Nat.{le-refl, add-zero, add-suc}
 use native.Mathlib.Omega.{arith}
@@ -62,10 +62,6 @@ module _ (e a env : ℕ → ℕ) (f : ℕ) (R : ℕ → Type 0)
 unfoldable pub finish : (ℕ → ℕ) → ℕ → ℕ
 finish a zero = a zero
 finish a (suc t) = max (finish a t) (suc t) + a (suc t)
-
-pub finish-next : (a : ℕ → ℕ) (t : ℕ) → finish a (suc t) ≡ max (finish a t) (suc t) + a (suc t)
-unfolding finish
-finish-next a t = refl
 
 pub finish-bound : (a env : ℕ → ℕ) (f : ℕ) → ((x d : ℕ) → span a x d ≤ env d) → ((d : ℕ) → env d ≤ f + d) → (t : ℕ) → finish a t ≤ t + f
 unfolding finish

@@ -14,7 +14,7 @@ use Rattle.machine.specs.Queue.{Queue, Handed}
 use Rattle.machine.proofs.Stage.Parts.{queue-tick, queue, handed}
 use Rattle.machine.proofs.Lists.Turns.{Empty, Each, each-append, each-right, each-map, each-empty, each-add, length-add}
 use Rattle.machine.proofs.Lists.Lanes.{listed, flat, names, brought, is-brought}
-use Rattle.machine.proofs.Stage.Lindley.{finish, finish-next}
+use Rattle.machine.proofs.Stage.Lindley.{finish}
 use Rattle.machine.proofs.Stage.Moves.{leaves}
 use Rattle.machine.proofs.Stage.QueueSteps.{Gave, Kept, cases, is-listed, lanes, stay, moves, none-first}
 
@@ -98,7 +98,8 @@ module _ {X : Type 0} (n gap : ℕ) (by from : X → ℕ) where
       v i t = finish (λ u. length (new u i) * nb) t
 
       v-next : (i t : ℕ) → (v i t + length (new (suc t) i) * nb ≤ v i (suc t)) × (suc t + length (new (suc t) i) * nb ≤ v i (suc t))
-      v-next i t = omega (arith, finish-next (λ u. length (new u i) * nb) t)
+      unfolding finish
+      v-next i t = omega arith
 
       v-low : (i t : ℕ) → t ≤ v i t
       v-low i zero = omega arith

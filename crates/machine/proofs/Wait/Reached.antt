@@ -58,23 +58,19 @@ module _ (net : Network) (sound : Sound net) (win : Windows net) (aim : Aim net)
   gap = vlAt net v .gap
 
   -- ---- a message of stream s₁ comes in the last tick
-  record Victim (m : Message) : Type 0 where
-    there : List·Memᴰ m (ch net run end .reach)
-    stream : m .stream ≡ s₁
-
-  some-victim : (m : Message) × Victim m
+  some-victim : (m : Message) × List·Memᴰ m (ch net run end .reach) × (m .stream ≡ s₁)
   some-victim =
       let u : ℕ = d + spread net sound aim in
       let x = rel net sound aim s₁ (n net sound aim s₁ - 1) in
       let i = last-released net sound aim (listed net sound win aim) in
       let o = message-of u 0 (run .releases u) x (subst (λ (l : List Release). List·Memᴰ x l) (sym (rels-are net sound win aim u)) i) in
-      let m = o .message in
-      let f = reach-delay net sound run ok .forward u m (o .there) in
-      let g : m .released ≡ u = was-message u 0 (run .releases u) m (o .there) .released in
+      let m = o .0 in
+      let f = reach-delay net sound run ok .forward u m (o .1) in
+      let g : m .released ≡ u = was-message u 0 (run .releases u) m (o .1) .released in
       let a = reach-at net sound run ok (f .at) m (f .there) .0 in
       let e : f .at ≡ end =
       omega (arith, a, ap (λ (t : ℕ). t + ch net run t .send m) g, send-is net sound win aim u m, arrives net sound aim u m) in
-      (m, record { there = subst (λ (t : ℕ). List·Memᴰ m (ch net run t .reach)) e (f .there); stream = o .stream })
+      (m, subst (λ (t : ℕ). List·Memᴰ m (ch net run t .reach)) e (f .there), o .2)
 
   -- what comes in that tick: others, then those of stream s₁
   abbrev due : List Message
@@ -95,12 +91,11 @@ module _ (net : Network) (sound : Sound net) (win : Windows net) (aim : Aim net)
   back-some : 0 < length back
   back-some =
       let m = some-victim .0 in
-      let w = some-victim .1 in
       ⊎-elim
       (λ i. let a = was-chosen (λ m. not (mine m)) (λ m. m) due m i in
-      absurd (not-both (mine m) (subst (λ (z : Message). T (not (mine z))) (a .is) (a .passes)) (eq→eqb (m .stream) s₁ (w .stream))))
+      absurd (not-both (mine m) (subst (λ (z : Message). T (not (mine z))) (a .is) (a .passes)) (eq→eqb (m .stream) s₁ (some-victim .2))))
       (λ i. some-in back m i)
-      (List·Memᴰ·append-cases front (subst (λ (l : List Message). List·Memᴰ m l) due-is (w .there)))
+      (List·Memᴰ·append-cases front (subst (λ (l : List Message). List·Memᴰ m l) due-is (some-victim .1)))
 
   -- the last of them
   abbrev tail : Ended back
