@@ -37,6 +37,7 @@ held=$CARGO_TARGET_DIR/release/held
 { "$held" wrap examples/*.tbl && "$held" items 1 1500; } | cmp - crates/run_items/stdin
 "$held" answers <crates/run_items/stdin | cmp - crates/run_items/stdout
 examples/check "$held" rows
+tests/held/texts 400 1
 examples/supplier/run
 tests/command/run
 
