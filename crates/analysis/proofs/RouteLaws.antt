@@ -1,5 +1,5 @@
--- What a route adds, hop by hop from its end: the sums so far and what is left of the route, `left` hops at most, are together what the whole route adds.
--- Assumes nothing.
+-- What a route adds, hop by hop from its end: the sums so far and what is left of the route, `left` hops at most, are together what the
+-- whole route adds. Assumes nothing.
 use Prim.Native.Nat.{ℕ, zero, suc, _+_, _-_, _*_, _≤_, _<_}
 use mathlib.Core.List.{List, map}
 use mathlib.Core.Option.{none, some}
@@ -63,7 +63,14 @@ module _ (net : Network) where
 
   pub walked-none : (h : ℕ) → h < length (net .hops) → Walked h 8 h 0 0
   unfolding route
-  walked-none h l = record { few = omega arith; there = l; most-bound = omega arith; most-is = omega arith; least-bound = omega arith; least-is = omega arith }
+  walked-none h l = record {
+    few = omega arith;
+    there = l;
+    most-bound = omega arith;
+    most-is = omega arith;
+    least-bound = omega arith;
+    least-is = omega arith;
+  }
 
   module _ (h left g most least : ℕ) (so-far : Walked h left g most least) where
     pub walked-all : left ≡ 0 → RouteTicks net h (record { most = most; least = least })

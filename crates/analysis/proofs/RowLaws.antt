@@ -26,7 +26,8 @@ module _ (net : Network) where
   unfolding gapsOf
   gaps-read s v p size lmax gap e f g i j = rw (f, g, i, j, e)
 
-  pub worst-read : (s h v queue wait : ℕ) (d : Delays) (frame route : Ticks) → d ≡ delaysIn net → v ≡ streamAt net s .vl → queue ≡ queueOf net s
+  pub worst-read : (s h v queue wait : ℕ) (d : Delays) (frame route : Ticks) → d ≡ delaysIn net → v ≡ streamAt net s .vl
+      → queue ≡ queueOf net s
       → wait ≡ muxWait net v → FrameTicks net v frame → RouteTicks net h route
       → d .«send_greatest» + queue + wait + frame .most + route .most + d .«receive_greatest» ≡ worst net s h
   worst-read s h v queue wait d frame route is on q w f r = rw (is, q, w, f .most-is, r .most-is, on) (sym (worst-sum net s h))

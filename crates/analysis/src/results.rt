@@ -25,7 +25,8 @@ pub struct Ticks {
     pub least: u64,
 }
 
-// What the route of hop h adds at most, the greatest switch delay and the figure of each port, and at least, a least frame on each link and the least switch delay.
+// What the route of hop h adds at most, the greatest switch delay and the figure of each port, and at least, a least frame on each link
+// and the least switch delay.
 fn route_ticks(net: &[u64; SHEET], hops: &[u64; MOST_HOPS], h: usize) -> Ticks
     requires { ⌜ HopsKnown (now net) (now hops) h ⌝ }
     ensures { λ r. ⌜ RouteTicks (networkOn (now (net .entry))) h r ⌝ }

@@ -90,8 +90,11 @@ module _ (net : Network) (ranges : Ranges net) (refs : References net) where
       let v = hopAt net h .vl in
       let p = hopAt net h .port in
       let there = refs .hop-vl h l in
-      let per = per-byte-bounds (portAt net p .perbyte) (ranges .port p (refs .hop-port h l) .per-byte) in
-      (most-some (portLink net p) (per .0) (vlAt net v .lmax) (line-least v there), most-bound (portLink net p) (per .1) (vlAt net v .lmax) (ranges .vl v there .lmax-greatest))
+      let per = per-byte-bounds (portAt net p .perbyte) (ranges .port p (refs .hop-port h l) .per-byte) in (
+        most-some (portLink net p) (per .0) (vlAt net v .lmax) (line-least v there),
+        most-bound (portLink net p) (per .1) (vlAt net v .lmax)
+            (ranges .vl v there .lmax-greatest),
+      )
 
   hop-spread-bound : (h : ℕ) → h < length (net .hops) → hopSpread net h ≤ 1250
   hop-spread-bound h l = omega (arith, hop-spread-is net h, ranges .port (hopAt net h .port) (refs .hop-port h l) .delay-greatest)

@@ -58,7 +58,8 @@ module _ (net : Network) where
     pub counts-inner : leaf net n ≡ false → CountsTo (n + 1) counts
     counts-inner t = record { long = so-far .long; count-is = λ v l. so-far .count-is v l ∙ ap length (sym (leaves-to-inner v n t)) }
 
-    pub counts-more : (v : ℕ) → v ≡ hopAt net n .vl → v < limits .vls → leaf net n ≡ true → CountsTo (n + 1) (set counts v (getD counts v 0 + 1))
+    pub counts-more : (v : ℕ) → v ≡ hopAt net n .vl → v < limits .vls → leaf net n ≡ true
+        → CountsTo (n + 1) (set counts v (getD counts v 0 + 1))
     counts-more v e l t = record {
       long = length-set counts v (getD counts v 0 + 1) ∙ so-far .long;
       count-is = λ u k. elim (ℕ-discrete u v) [

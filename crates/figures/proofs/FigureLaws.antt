@@ -31,7 +31,8 @@ pub record PortsTo (net : Network) (p : ℕ) (figures jitters : List ℕ) : Type
   pub served : (i : ℕ) → i < p → endless net i ≡ false
 
 module _ (net : Network) where
-  pub ports-none : (figures jitters : List ℕ) → figures ≡ replicate (limits .hops) 0 → jitters ≡ replicate (limits .hops) 0 → PortsTo net 0 figures jitters
+  pub ports-none : (figures jitters : List ℕ) → figures ≡ replicate (limits .hops) 0 → jitters ≡ replicate (limits .hops) 0
+      → PortsTo net 0 figures jitters
   ports-none figures jitters e f = record {
     far = omega arith;
     figures-are = no-port net (figureOf net) figures e;

@@ -1,5 +1,5 @@
--- Flows gathered one behind the other in a list: those of the rows passed so far that a test is true of; one row more; and that the list has room for it,
--- where the station takes the flows of all rows that pass. Assumes nothing.
+-- Flows gathered one behind the other in a list: those of the rows passed so far that a test is true of; one row more; and that there is
+-- room for it, where the station takes the flows of all rows that pass. Assumes nothing.
 use Prim.Native.Nat.{ℕ, suc, _+_, _*_, _≤_, _<_}
 use mathlib.Core.Bool.{Bool, true, false}
 use mathlib.Core.List.{List, [], _∷_, _++_, map, map-append}

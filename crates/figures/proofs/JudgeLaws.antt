@@ -10,7 +10,6 @@ use borrow.Author.Tests.{lt-ltb, le-ltb, eq-eqb, ne-eqb}
 use lib.Dec.{eqb}
 use lib.ListN.{length, replicate}
 use Rattle.base.specs.Least.{leastFrom}
-use Rattle.base.specs.Tests.{isSome}
 use Rattle.base.proofs.LeastLaws.{least-is, least-none}
 use Rattle.layout.specs.Limits.{limits}
 use Rattle.layout.specs.Sizes.{place}
@@ -25,52 +24,24 @@ use Rattle.table.proofs.FirstLaws.{NoneGiven, none-accepts, first-is}
 use Rattle.sheet.specs.Sheet.{networkOn, sheetOf}
 use Rattle.reader.specs.Reading.{readSheet}
 use Rattle.rows.specs.Rows.{rowsOf}
-use Rattle.rows.specs.Refusals.{sendsLate, lateSystem, tooManyRows, tooShort, endlessSubLink, endlessVl, endless, endlessPort}
-use Rattle.answers.specs.Analysis.{refusedAt, answer7, answer8, answer9, answer10, analysisAnswer, accepts}
+use Rattle.rows.specs.Refusals.{tooManyRows, tooShort}
+use Rattle.answers.specs.Analysis.{refusedAt, answer8, analysisAnswer, accepts}
 use Rattle.answers.proofs.AcceptedLaws.{later, reader-refuses, reader-accepts}
 use Rattle.figures.specs.Figures.{Figured}
 use Rattle.figures.specs.Computing.{First}
 use Rattle.figures.specs.Judging.{Computed, Judged}
 
--- ---- a refusal at the first row that fails a test, and none where no row does
+-- ---- a refusal at the first row that fails a test, and none where no row does: 7, 9 and 10
 module _ (number section : ℕ) (test : ℕ → Bool) (n r : ℕ) (first : First test n r) where
-  given-at : r < n → refusedAt number section (leastFrom test 0 n) ≡ some (answer number section r 0)
+  pub given-at : r < n → refusedAt number section (leastFrom test 0 n) ≡ some (answer number section r 0)
   unfolding refusedAt
   given-at h = ap (refusedAt number section) (least-is test 0 n r (omega arith) (omega arith) (first .there h) (λ i a b. first .before i b))
 
-  none-at : n ≤ r → refusedAt number section (leastFrom test 0 n) ≡ none
+  pub none-at : n ≤ r → refusedAt number section (leastFrom test 0 n) ≡ none
   unfolding refusedAt
   none-at h = ap (refusedAt number section) (least-none test 0 n (λ i a b. first .before i (omega arith)))
 
--- ---- 7 to 10, each given or not
-module _ (net : Network) (r : ℕ) where
-  module _ (first : First (sendsLate net) (length (net .systems)) r) where
-    pub given-7 : r < length (net .systems) → answer7 net ≡ some (answer 7 1 r 0)
-    unfolding answer7 lateSystem
-    given-7 = given-at 7 1 (sendsLate net) (length (net .systems)) r first
-
-    pub none-7 : length (net .systems) ≤ r → answer7 net ≡ none
-    unfolding answer7 lateSystem
-    none-7 = none-at 7 1 (sendsLate net) (length (net .systems)) r first
-
-  module _ (first : First (λ v. isSome (endlessSubLink net v)) (length (net .vls)) r) where
-    pub given-9 : r < length (net .vls) → answer9 net ≡ some (answer 9 2 r 0)
-    unfolding answer9 endlessVl
-    given-9 = given-at 9 2 (λ v. isSome (endlessSubLink net v)) (length (net .vls)) r first
-
-    pub none-9 : length (net .vls) ≤ r → answer9 net ≡ none
-    unfolding answer9 endlessVl
-    none-9 = none-at 9 2 (λ v. isSome (endlessSubLink net v)) (length (net .vls)) r first
-
-  module _ (first : First (endless net) (length (net .ports)) r) where
-    pub given-10 : r < length (net .ports) → answer10 net ≡ some (answer 10 4 r 0)
-    unfolding answer10 endlessPort
-    given-10 = given-at 10 4 (endless net) (length (net .ports)) r first
-
-    pub none-10 : length (net .ports) ≤ r → answer10 net ≡ none
-    unfolding answer10 endlessPort
-    none-10 = none-at 10 4 (endless net) (length (net .ports)) r first
-
+-- ---- 7 to 10: 8, which goes by the rows, and the first of them that is given
 module _ (net : Network) (room : ℕ) where
   pub given-8-many : limits .rows < length (rowsOf net) → answer8 net room ≡ some (answer 8 0 0 0)
   unfolding answer8 tooManyRows

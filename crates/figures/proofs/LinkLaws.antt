@@ -46,7 +46,8 @@ module _ (net : Network) where
   send-least-is v = rw least-line-is (least-ticks (systemLink net (vlAt net v .system)))
 
   -- as it is computed, of a VL that was read
-  pub least-sent-by : (v : ℕ) (vl : Vl) (system : EndSystem) → vl ≡ vlAt net v → system ≡ systemAt net (vl .system) → 84 * system .perbyte ≡ sendLine net v
+  pub least-sent-by : (v : ℕ) (vl : Vl) (system : EndSystem) → vl ≡ vlAt net v → system ≡ systemAt net (vl .system)
+      → 84 * system .perbyte ≡ sendLine net v
   least-sent-by v vl system is on = rw (on, is, send-least-is v, least-line-is)
 
   -- the least and what is between it and the most

@@ -60,7 +60,9 @@ module _ (net : Network) (f : ℕ → ℕ) where
       }
 
   -- all ports: each hop is on one of them
-  pub noted-all : References net → (p : ℕ) (list : List ℕ) → length (net .hops) ≤ limits .hops → length (net .ports) ≤ p → Noted net f p list
+  pub noted-all : References net → (p : ℕ) (list : List ℕ) → length (net .hops) ≤ limits .hops → length (net .ports) ≤ p
+      → Noted net f p list
       → list ≡ noted f (limits .hops) (length (net .hops))
   noted-all refs p list few all n =
-      noted-by f (limits .hops) (length (net .hops)) list few (n .long) (λ h l. n .below h l (omega (arith, refs .hop-port h l))) (n .behind)
+      noted-by f (limits .hops) (length (net .hops)) list few (n .long) (λ h l. n .below h l (omega (arith, refs .hop-port h l)))
+      (n .behind)

@@ -46,7 +46,8 @@ module _ (net : Network) (p : ℕ) where
     unfolding hopFlow
     gathering-taken on flow is after r put = record {
       far = omega arith;
-      gathers = gather-taken (hopFlow net (jitterOf net)) (onPort net p) h flows count (so-far .gathers) flow (eq-eqb _ _ on) is after r put;
+      gathers = gather-taken (hopFlow net (jitterOf net)) (onPort net p) h flows count (so-far .gathers) flow (eq-eqb _ _ on) is after r
+          put;
       noted-here = noted-taken net (jitterOf net) p h jitters (so-far .noted-here) (flow .jitter) row (omega arith) on (ap (λ (f : Flow). f .jitter) is);
     }
 
@@ -54,7 +55,8 @@ module _ (net : Network) (p : ℕ) where
     pub gathering-room : Ranges net → References net → hopAt net h .port ≡ p → count * 3 + 2 < mostFlows * 3
     unfolding portFlows hopsOn
     gathering-room ranges refs on =
-        gather-room (hopFlow net (jitterOf net)) (onPort net p) h flows count (so-far .gathers) (eq-eqb _ _ on) (length (net .hops)) row (port-offered net ranges refs p)
+        gather-room (hopFlow net (jitterOf net)) (onPort net p) h flows count (so-far .gathers) (eq-eqb _ _ on) (length (net .hops)) row
+        (port-offered net ranges refs p)
 
     -- ---- one that is not
     pub gathering-passed : (hopAt net h .port ≡ p → ⊥) → Gathering net p (h + 1) jitters flows count

@@ -50,11 +50,13 @@ module _ (net : Network) (v k s : ℕ) (stream : Stream) (is : stream ≡ stream
   on-sub-link e f = rw (← is, eq-eqb _ _ e, eq-eqb _ _ f)
 
   -- it has its place: a queue has no more flows than there are streams
-  pub sub-link-room : Ranges net → References net → s < length (net .streams) → stream .vl ≡ v → stream .sublink ≡ k → (flows : List ℕ) (count : ℕ)
+  pub sub-link-room : Ranges net → References net → s < length (net .streams) → stream .vl ≡ v → stream .sublink ≡ k
+      → (flows : List ℕ) (count : ℕ)
       → Gathers (queueFlow net) (onSubLink net v k) s flows count → count * 3 + 2 < mostFlows * 3
   unfolding queueFlows streamsOn
   sub-link-room ranges refs row e f flows count g =
-      gather-room (queueFlow net) (onSubLink net v k) s flows count g (on-sub-link e f) (length (net .streams)) row (queue-offered net ranges refs v k)
+      gather-room (queueFlow net) (onSubLink net v k) s flows count g (on-sub-link e f) (length (net .streams)) row
+      (queue-offered net ranges refs v k)
 
   pub on-other-sub-link : (stream .sublink ≡ k → ⊥) → onSubLink net v k s ≡ false
   on-other-sub-link f = rw (← is, ne-eqb _ _ f) (and-false (eqb (stream .vl) v))
@@ -110,14 +112,16 @@ pub record QueuesTo (net : Network) (i : ℕ) (queues : List ℕ) : Type 0 where
   pub served : (j : ℕ) → j < i → j % 4 < vlAt net (j / 4) .sublinks → not (isSome (queueLength net (j / 4) (j % 4))) ≡ false
 
 pub queues-none : (net : Network) (queues : List ℕ) → queues ≡ replicate (limits .vls * 4) 0 → QueuesTo net 0 queues
-queues-none net queues e = record { far = omega arith; noted-are = e ∙ noted-none (queueAt net) (limits .vls * 4); served = λ j l. absurd (omega arith) }
+queues-none net queues e =
+    record { far = omega arith; noted-are = e ∙ noted-none (queueAt net) (limits .vls * 4); served = λ j l. absurd (omega arith) }
 
 module _ (net : Network) (ranges : Ranges net) (i : ℕ) (queues : List ℕ) (so-far : QueuesTo net i queues) where
   -- a VL whose places are all passed
   vl-served : (u : ℕ) → u * 4 + 4 ≤ i → isSome (endlessSubLink net u) ≡ false
   vl-served u h = no-sub-link-endless net u (λ k l.
       let four : k < 4 = omega (arith, ranges .vl u (omega (arith, so-far .far)) .sub-links-greatest) in
-      rw (place-vl net u k four, place-link net u k four) at (so-far .served (u * 4 + k) (omega arith) (rw (place-vl net u k four, place-link net u k four) l)))
+      rw (place-vl net u k four, place-link net u k four) at (so-far .served (u * 4 + k) (omega arith)
+      (rw (place-vl net u k four, place-link net u k four) l)))
 
   module _ (row : i < length (net .vls) * 4) where
     -- the VL has no such sub-link: the zero there is its figure
@@ -126,7 +130,8 @@ module _ (net : Network) (ranges : Ranges net) (i : ℕ) (queues : List ℕ) (so
     queues-passed h = record {
       far = omega arith;
       noted-are = so-far .noted-are
-          ∙ sym (noted-zero (queueAt net) (limits .vls * 4) i (omega (arith, ranges .few-vls)) (rw (le-ltb (i % 4) (vlAt net (i / 4) .sublinks) h)));
+          ∙ sym (noted-zero (queueAt net) (limits .vls * 4) i (omega (arith, ranges .few-vls))
+          (rw (le-ltb (i % 4) (vlAt net (i / 4) .sublinks) h)));
       served = below-more (λ (j : ℕ). j % 4 < vlAt net (j / 4) .sublinks → not (isSome (queueLength net (j / 4) (j % 4))) ≡ false) i
           (so-far .served) (λ l. absurd (omega arith));
     }

@@ -12,7 +12,8 @@ ghost use Rattle.station.specs.Offered.{offered};
 ghost use Rattle.station.specs.Flat.{flowsIn};
 ghost use Rattle.figures.specs.Gathering.{Found};
 
-// Three numbers for each of the most flows that the station takes. A queue has at most as many flows as there are streams, a port as there are VLs.
+// Three numbers for each of the most flows that the station takes. A queue has at most as many flows as there are streams, a port as
+// there are VLs.
 pub const FLOWS: usize = MOST_FLOWS * 3;
 
 // What the station says of flows: that they have no busy length, or their figure.

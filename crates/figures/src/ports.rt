@@ -29,7 +29,8 @@ fn spread(port: Port) -> u64
 }
 
 // By how much the frames are apart that come to the switch before hop h, where the jitters and the figures of the hops on lower ports are known:
-// the mux wait and what is between their most and least ticks behind the end system; the parent's jitter and figure, less its least frame, behind a port.
+// the mux wait and what is between their most and least ticks behind the end system; the parent's jitter and figure, less its least
+// frame, behind a port.
 fn come_apart(
     net: &[u64; SHEET],
     waits: &[u64; MOST_VLS],

@@ -1,5 +1,5 @@
--- `analysis::results::frame_ticks` meets its contract: the most and the least bytes of the VL's frame, by the ticks of a byte on its end system's link.
--- Assumes nothing.
+-- `analysis::results::frame_ticks` meets its contract: the most and the least bytes of the VL's frame, by the ticks of a byte on its end
+-- system's link. Assumes nothing.
 use Prim.Native.Nat.{ℕ, _*_, _≤_}
 use mathlib.Core.Path.{_≡_, refl, ap}
 use native.Mathlib.Nat.{mul-le-mul}
@@ -18,10 +18,12 @@ on-link : (c : tie.After-system-at) → OnLink (c .before .vl-at .result) (c .sy
 on-link c = let p = c .before .before .pre in vl-on-link (p .0) (c .before .vl-at .ensures) (p .1) (c .system-at .ensures)
 
 most : (c : tie.After-line) →
-    (c .line .result ≡ largestLine (c .before .before .vl-at .result .lmax)) × (c .line .result * c .before .system-at .result .perbyte ≤ 15380)
+    (c .line .result ≡ largestLine (c .before .before .vl-at .result .lmax)) ×
+    (c .line .result * c .before .system-at .result .perbyte ≤ 15380)
 most c =
     let on = on-link (c .before) in
-    let line = line-is (c .before .before .vl-at .result .lmax) (c .line .result) (on .vl-range .lmax-least) (on .vl-range .lmax-greatest) (c .line .ensures) in
+    let line = line-is (c .before .before .vl-at .result .lmax) (c .line .result) (on .vl-range .lmax-least) (on .vl-range .lmax-greatest)
+    (c .line .ensures) in
     (line .0, mul-le-mul (line .2) (on .per-byte-greatest))
 
 mul-t6 : tie.Need-mul-t6

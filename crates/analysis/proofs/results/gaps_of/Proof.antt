@@ -28,7 +28,8 @@ few c =
     let p = c .before .before .before .pre in
     let stream = stream-range (p .0) (c .before .before .stream-at .ensures) (p .1) in
     let vl = vl-known (c .before) in
-    packets-are _ _ (c .packets .result) (stream .least-size-least) (omega (arith, stream)) (vl .lmax-least) (vl .lmax-greatest) (c .packets .ensures)
+    packets-are _ _ (c .packets .result) (stream .least-size-least) (omega (arith, stream)) (vl .lmax-least) (vl .lmax-greatest)
+    (c .packets .ensures)
 
 most : (c : tie.After-packets) → (c .packets .result - 1) * c .before .vl-at .result .gap ≤ 769600000
 most c = mul-le-mul {n₁ = c .packets .result - 1} {n₂ = 481} (omega (arith, few c .2)) (vl-known (c .before) .gap-greatest)
@@ -37,7 +38,8 @@ returns : tie.Need-returns
 returns c =
     let stream = c .before .before .before .stream-at .ensures in
     let vl = c .before .before .vl-at .ensures in (
-      gaps-read _ _ _ _ _ _ _ (ap (λ (x : Stream). x .vl) stream) (few (c .before) .0) (ap (λ (x : Stream). x .least) stream) (ap (λ (x : Vl). x .lmax) vl) (ap (λ (x : Vl). x .gap) vl),
+      gaps-read _ _ _ _ _ _ _ (ap (λ (x : Stream). x .vl) stream) (few (c .before) .0) (ap (λ (x : Stream). x .least) stream)
+          (ap (λ (x : Vl). x .lmax) vl) (ap (λ (x : Vl). x .gap) vl),
       most (c .before),
     )
 

@@ -1,5 +1,5 @@
--- `analysis::results::route_ticks` meets its contract: after each turn the sums and what is left of the route are together what the whole route adds.
--- Assumes nothing.
+-- `analysis::results::route_ticks` meets its contract: after each turn the sums and what is left of the route are together what the whole
+-- route adds. Assumes nothing.
 use Prim.Native.Nat.{_+_, _*_}
 use native.Mathlib.Omega.{arith}
 use lib.ListN.{getD}
@@ -31,7 +31,11 @@ loop-holds : tie.Need-loop-holds Inv-loop μ-loop
 loop-holds c = walked-none (networkOn (c .args .net .now)) (c .args .h) (c .pre .row)
 
 element-copy-out-most : tie.Need-element-copy-out-most Inv-loop μ-loop
-element-copy-out-most c = omega (arith, c .before .before .before .loop .inv .there, c .before .before .before .before .pre .good .ranges .few-hops)
+element-copy-out-most c = omega (
+  arith,
+  c .before .before .before .loop .inv .there,
+  c .before .before .before .before .pre .good .ranges .few-hops,
+)
 
 add-most : tie.Need-add-most Inv-loop μ-loop
 add-most c = omega (arith, adds (c .before .before))
@@ -53,14 +57,17 @@ returns c =
     let read = c .before .before .before .before .before .before in
     let l = read .before .before .before .loop in
     walked-root _ _ _ _ _ _ (l .inv) (read .before .before .loop-test .taken) _ _ (adds read)
-    (parent-read (networkOn (read .before .before .before .before .args .net .now)) (l .g) (read .before .hop-at .ensures) (c .enum-told .given .1))
+    (parent-read (networkOn (read .before .before .before .before .args .net .now)) (l .g) (read .before .hop-at .ensures)
+    (c .enum-told .given .1))
 
 loop-again : tie.Need-loop-again Inv-loop μ-loop
 loop-again c =
     let read = c .before .before .before .before .before .before .before in
     let l = read .before .before .before .loop in
-    walked-child _ _ _ _ _ _ (l .inv) (read .before .before .loop-test .taken) _ _ (adds read) (read .before .before .before .before .pre .good .references) _
-    (parent-read (networkOn (read .before .before .before .before .args .net .now)) (l .g) (read .before .hop-at .ensures) (c .before .parent .given .1))
+    walked-child _ _ _ _ _ _ (l .inv) (read .before .before .loop-test .taken) _ _ (adds read)
+    (read .before .before .before .before .pre .good .references) _
+    (parent-read (networkOn (read .before .before .before .before .args .net .now)) (l .g) (read .before .hop-at .ensures)
+    (c .before .parent .given .1))
 
 returns-2 : tie.Need-returns-2 Inv-loop μ-loop
 returns-2 c = walked-all _ _ _ _ _ _ (c .before .loop .inv) (omega arith)

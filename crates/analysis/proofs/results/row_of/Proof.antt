@@ -37,14 +37,19 @@ route-ticks-requires : tie.Need-route-ticks-requires
 route-ticks-requires c κs = let p = c .before .before .before .before .pre in hops-known _ _ _ _ (p .0) _ (p .1 .hop-there)
 
 element-copy-out-worst-of : tie.Need-element-copy-out-worst-of
-element-copy-out-worst-of c = omega (arith, vl-there (c .before .before .before), c .before .before .before .before .before .pre .0 .good .ranges .few-vls)
+element-copy-out-worst-of c = omega (
+  arith,
+  vl-there (c .before .before .before),
+  c .before .before .before .before .before .pre .0 .good .ranges .few-vls,
+)
 
 worst-of-requires : tie.Need-worst-of-requires
 worst-of-requires c κs =
     let route = c .before in
     omega (
       arith,
-      delays-range (route .before .before .before .before .before .pre .0 .good) (route .before .before .before .before .delays-of .ensures),
+      delays-range (route .before .before .before .before .before .pre .0 .good)
+          (route .before .before .before .before .delays-of .ensures),
       route .before .before .queue-of .ensures .1,
       waited (route .before .before .before) .1,
       route .before .frame-ticks .ensures .most-bound,
@@ -56,7 +61,8 @@ best-of-requires c κs =
     let route = c .before .before .before in
     omega (
       arith,
-      delays-range (route .before .before .before .before .before .pre .0 .good) (route .before .before .before .before .delays-of .ensures),
+      delays-range (route .before .before .before .before .before .pre .0 .good)
+          (route .before .before .before .before .delays-of .ensures),
       c .gaps-of .ensures .1,
       route .before .frame-ticks .ensures .least-bound,
       route .route-ticks .ensures .least-bound,
@@ -67,7 +73,8 @@ add-jitter c =
     let p = c .before .before .before .before .before .before .before .before .before .before .before .pre in
     omega (
       arith,
-      stream-range (p .0 .good) (c .before .before .before .before .before .before .before .before .before .stream-at .ensures) (p .1 .stream-there) .jitter-greatest,
+      stream-range (p .0 .good) (c .before .before .before .before .before .before .before .before .before .stream-at .ensures)
+          (p .1 .stream-there) .jitter-greatest,
       c .before .before .before .before .worst-of .ensures .1,
       c .before .less .ensures,
     )
@@ -84,8 +91,10 @@ returns c =
     let way = route .route-ticks .ensures in
     let queue = route .before .before .queue-of .ensures .0 in
     row-read net (a .s) (a .h) _ _ _ _ _ queue
-    (c .before .before .before .before .worst-of .ensures .0 ∙ worst-read net (a .s) (a .h) _ _ _ _ _ _ delays on queue (waited stream .0) frame way)
-    (c .before .before .best-of .ensures ∙ best-read net (a .s) (a .h) _ _ _ _ _ delays on (c .before .before .before .gaps-of .ensures .0) frame way)
+    (c .before .before .before .before .worst-of .ensures .0 ∙ worst-read net (a .s) (a .h) _ _ _ _ _ _ delays on queue (waited stream .0)
+    frame way)
+    (c .before .before .best-of .ensures ∙ best-read net (a .s) (a .h) _ _ _ _ _ delays on (c .before .before .before .gaps-of .ensures .0)
+    frame way)
     (ap (λ (x : Stream). x .jitter) (stream .stream-at .ensures))
     (c .before .less .ensures)
 

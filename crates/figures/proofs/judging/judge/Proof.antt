@@ -6,9 +6,10 @@ use mathlib.Core.Path.{_≡_, refl}
 use native.Mathlib.Omega.{arith}
 use Prim.Native.Nat.{ℕ}
 use Rattle.network.specs.Network.{Network}
+use Rattle.rows.specs.Refusals.{lateSystem, endlessVl, endlessPort}
 use Rattle.sheet.specs.Sheet.{networkOn}
 use Rattle.answers.specs.Analysis.{answer7, answer8, answer9, answer10}
-use Rattle.figures.proofs.JudgeLaws.{given-7, none-7, given-8-many, given-8-short, none-8, given-9, none-9, given-10, none-10, judged-refuses, judged-accepts}
+use Rattle.figures.proofs.JudgeLaws.{given-at, none-at, given-8-many, given-8-short, none-8, judged-refuses, judged-accepts}
 use borrow.Author.Needs.{needs}
 use Rattle.figures.proofs.judging.judge.Statement.{statement}
 use Rattle.figures.proofs.judging.judge.Tie as tie
@@ -31,7 +32,8 @@ abbrev room : tie.After-systems-in → ℕ
 room c = start-at c .args .room
 
 past-7 : (c : tie.Else1) → answer7 (net (c .before)) ≡ none
-past-7 c = none-7 (net (c .before)) _ (c .before .before .late-system .ensures) (omega arith)
+unfolding answer7 lateSystem
+past-7 c = none-at 7 1 _ _ _ (c .before .before .late-system .ensures) (omega arith)
 
 past-8 : (c : tie.Else3) → answer8 (net (past-7-at c .before)) (room (past-7-at c .before)) ≡ none
 past-8 c =
@@ -40,14 +42,16 @@ past-8 c =
     none-8 (net first) (room first) (omega (arith, rows .0)) (omega (arith, rows .0))
 
 past-9 : (c : tie.Else4) → answer9 (net (past-7-at (past-8-at c) .before)) ≡ none
-past-9 c = none-9 (net (past-7-at (past-8-at c) .before)) _ (c .before .before .all-queues .ensures .first) (omega arith)
+unfolding answer9 endlessVl
+past-9 c = none-at 9 2 _ _ _ (c .before .before .all-queues .ensures .first) (omega arith)
 
 returns : tie.Need-returns
+unfolding answer7 lateSystem
 returns c =
     let first = c .before .before in
     let n = net first in
     let m = room first in
-    judged-refuses n m _ _ _ _ [] (answer7 n) (answer8 n m ∷ answer9 n ∷ answer10 n ∷ []) _ refl tt (given-7 n _ (first .before .late-system .ensures) (omega arith)) (omega arith) (c .refuse .ensures)
+    judged-refuses n m _ _ _ _ [] (answer7 n) (answer8 n m ∷ answer9 n ∷ answer10 n ∷ []) _ refl tt (given-at 7 1 _ _ _ (first .before .late-system .ensures) (omega arith)) (omega arith) (c .refuse .ensures)
 
 returns-2 : tie.Need-returns-2
 returns-2 c =
@@ -68,15 +72,17 @@ returns-3 c =
     judged-refuses n m _ _ _ _ (answer7 n ∷ []) (answer8 n m) (answer9 n ∷ answer10 n ∷ []) _ refl (past-7 past, tt) (given-8-short n m (omega (arith, rows .0)) (omega (arith, rows .0))) (omega arith) (c .refuse3 .ensures)
 
 returns-4 : tie.Need-returns-4
+unfolding answer9 endlessVl
 returns-4 c =
     let fits = c .before .before .before .before .before .before in
     let past = past-7-at fits in
     let first = past .before in
     let n = net first in
     let m = room first in
-    judged-refuses n m _ _ _ _ (answer7 n ∷ answer8 n m ∷ []) (answer9 n) (answer10 n ∷ []) _ refl (past-7 past, (past-8 fits, tt)) (given-9 n _ (c .before .before .before .all-queues .ensures .first) (omega arith)) (omega arith) (c .refuse4 .ensures)
+    judged-refuses n m _ _ _ _ (answer7 n ∷ answer8 n m ∷ []) (answer9 n) (answer10 n ∷ []) _ refl (past-7 past, (past-8 fits, tt)) (given-at 9 2 _ _ _ (c .before .before .before .all-queues .ensures .first) (omega arith)) (omega arith) (c .refuse4 .ensures)
 
 returns-5 : tie.Need-returns-5
+unfolding answer10 endlessPort
 returns-5 c =
     let queued = c .before .before .before .before .before .before .before .before .before in
     let fits = past-8-at queued in
@@ -84,9 +90,10 @@ returns-5 c =
     let first = past .before in
     let n = net first in
     let m = room first in
-    judged-refuses n m _ _ _ _ (answer7 n ∷ answer8 n m ∷ answer9 n ∷ []) (answer10 n) [] _ refl (past-7 past, (past-8 fits, (past-9 queued, tt))) (given-10 n _ (c .before .before .before .all-ports .ensures .first) (omega arith)) (omega arith) (c .refuse5 .ensures)
+    judged-refuses n m _ _ _ _ (answer7 n ∷ answer8 n m ∷ answer9 n ∷ []) (answer10 n) [] _ refl (past-7 past, (past-8 fits, (past-9 queued, tt))) (given-at 10 4 _ _ _ (c .before .before .before .all-ports .ensures .first) (omega arith)) (omega arith) (c .refuse5 .ensures)
 
 returns-6 : tie.Need-returns-6
+unfolding answer10 endlessPort
 returns-6 c =
     let queued = c .before .before .before .before .before .before .before .before .before in
     let fits = past-8-at queued in
@@ -95,7 +102,7 @@ returns-6 c =
     let n = net first in
     let m = room first in
     let ports = c .before .before .before .all-ports .ensures in
-    judged-accepts n m _ _ _ _ (past-7 past, (past-8 fits, (past-9 queued, (none-10 n _ (ports .first) (omega arith), tt)))) (c .accept .ensures)
+    judged-accepts n m _ _ _ _ (past-7 past, (past-8 fits, (past-9 queued, (none-at 10 4 _ _ _ (ports .first) (omega arith), tt)))) (c .accept .ensures)
     record {
       waits-are = c .before .before .before .before .before .before .before .mux-waits .ensures;
       queues-are = queued .before .before .all-queues .ensures .queues-are (omega arith);

@@ -24,7 +24,8 @@ loop-holds : tie.Need-loop-holds Inv-loop μ-loop
 loop-holds c = (omega arith, (λ k l. absurd (omega arith)))
 
 -- no VL has the number that is left out
-summed : (c : tie.After-sum-without Inv-loop μ-loop) → c .sum-without .result ≡ sendSum (networkOn (c .before .before .before .before .before .args .net .now)) (c .before .before .loop .e)
+summed : (c : tie.After-sum-without Inv-loop μ-loop) →
+    c .sum-without .result ≡ sendSum (networkOn (c .before .before .before .before .before .args .net .now)) (c .before .before .loop .e)
 summed c = c .sum-without .ensures ∙ rw (c .before .before .before .vls-in .ensures .0) (sym (send-sum-is _ _))
 
 returns : tie.Need-returns Inv-loop μ-loop

@@ -1,5 +1,5 @@
--- `figures::links::mux_waits` meets its contract: after v turns the mux waits of the first v VLs stand in their places; each leaves the VL itself out.
--- Assumes nothing.
+-- `figures::links::mux_waits` meets its contract: after v turns the mux waits of the first v VLs stand in their places; each leaves the
+-- VL itself out. Assumes nothing.
 use Prim.Native.Nat.{ℕ, _-_, _≤_}
 use mathlib.Core.List.{List}
 use mathlib.Core.Path.{_≡_, sym, ap, _∙_}
@@ -33,8 +33,11 @@ loop-again : tie.Need-loop-again Inv-loop μ-loop
 loop-again c =
     let l = c .before .before .before .loop in
     let wait = c .sum-without .result in
-    let set-here = ap (λ (ws : List ℕ). set ws (l .v) wait) (l .inv .1) in
-    (omega arith, set-here ∙ noted-more _ (limits .vls) (l .v) wait (omega arith) (c .sum-without .ensures ∙ rw (c .before .vl-at .ensures) (sym (mux-wait-is _ _))))
+    let set-here = ap (λ (ws : List ℕ). set ws (l .v) wait) (l .inv .1) in (
+      omega arith,
+      set-here ∙ noted-more _ (limits .vls) (l .v) wait (omega arith)
+          (c .sum-without .ensures ∙ rw (c .before .vl-at .ensures) (sym (mux-wait-is _ _))),
+    )
 
 returns : tie.Need-returns Inv-loop μ-loop
 unfolding waitsOf

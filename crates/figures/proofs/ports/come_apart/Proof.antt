@@ -17,18 +17,21 @@ use Rattle.figures.proofs.ports.come_apart.Statement.{statement}
 use Rattle.figures.proofs.ports.come_apart.Tie as tie
 
 -- ---- behind the end system
-vl-there : (c : tie.After-vl-at) → c .before .before .before .args .hop .vl < length (networkOn (c .before .before .before .args .net .now) .vls)
+vl-there : (c : tie.After-vl-at) →
+    c .before .before .before .args .hop .vl < length (networkOn (c .before .before .before .args .net .now) .vls)
 vl-there c = let p = c .before .before .before .pre in hop-names (p .known .good) (p .is) (p .there) .0
 
 on-link : (c : tie.After-system-at) → OnLink (c .before .vl-at .result) (c .system-at .result .perbyte)
-on-link c = vl-on-link (c .before .before .before .before .pre .known .good) (c .before .vl-at .ensures) (vl-there (c .before)) (c .system-at .ensures)
+on-link c = vl-on-link (c .before .before .before .before .pre .known .good) (c .before .vl-at .ensures) (vl-there (c .before))
+    (c .system-at .ensures)
 
 sent : (c : tie.After-frame-most) →
     let a = c .before .before .before .before .before .before .args in
     let net = networkOn (a .net .now) in
     let wait = getD (a .waits .now) (a .hop .vl) 0 in
     let least = 84 * c .before .before .system-at .result .perbyte in
-    (least ≤ c .frame-most .result) × (wait + (c .frame-most .result - least) ≡ muxWait net (a .hop .vl) + sendSpread net (a .hop .vl)) × (wait ≤ 4095 * 15380)
+    (least ≤ c .frame-most .result) × (wait + (c .frame-most .result - least) ≡ muxWait net (a .hop .vl) + sendSpread net (a .hop .vl)) ×
+    (wait ≤ 4095 * 15380)
 sent c =
     let start = c .before .before .before .before .before .before in
     let good = start .pre .known .good in
@@ -72,7 +75,8 @@ port-known c =
     let good = c .before .before .before .before .before .pre .known .good in
     port-range good (c .port-at .ensures) (hop-names good (c .before .hop-at .ensures) (above (c .before .before) .row) .1)
 
-apart : (c : tie.After-less) → getD (c .before .before .before .before .before .before .before .before .before .args .jitters .now) (c .before .before .before .before .before .before .before .parent .given .0 .0) 0 + c .less .result ≤ 1225000000
+apart : (c : tie.After-less) → getD (c .before .before .before .before .before .before .before .before .before .args .jitters .now)
+    (c .before .before .before .before .before .before .before .parent .given .0 .0) 0 + c .less .result ≤ 1225000000
 apart c =
     let good = c .before .before .before .before .before .before .before .before .before .pre .known .good in
     let known = above (c .before .before .before .before .before .before) in
@@ -93,7 +97,8 @@ returns-2 c =
     let known = above (c .before .before .before .before .before .before) in
     let port = c .before .before .before .before .port-at in
     let child = parent-read net (start .args .h) (p .is) (c .before .before .before .before .before .before .before .parent .given .1) in
-    let left = left-apart-is net _ _ _ _ _ _ _ (c .before .before .before .before .before .hop-at .ensures) (port .ensures) (known .jitter-is) (known .figure-is) (ap (λ (n : ℕ). n * port .result .perbyte) (sym least-line-is)) (c .less .ensures) in
+    let left = left-apart-is net _ _ _ _ _ _ _ (c .before .before .before .before .before .hop-at .ensures) (port .ensures)
+    (known .jitter-is) (known .figure-is) (ap (λ (n : ℕ). n * port .result .perbyte) (sym least-line-is)) (c .less .ensures) in
     (child-apart net (p .known .good .references) (start .args .h) (p .there) _ (p .is) _ _ child left, apart c)
 
 pub come-apart-spec : {M : Type 1} → statement M
@@ -115,8 +120,18 @@ come-apart-spec =
     (λ c κs. search needs)
     (λ c. omega (arith, above (c .before .before), c .before .before .before .before .before .pre .known .good .ranges .few-hops))
     (λ c. omega (arith, above (c .before .before), c .before .before .before .before .before .pre .known .good .ranges .few-hops))
-    (λ c. omega (arith, above (c .before .before .before), c .before .before .before .before .before .before .pre .known .good .ranges .few-hops))
-    (λ c. omega (arith, above (c .before .before .before), c .before .before .before .before .before .before .pre .known .good .ranges .few-hops))
+    (λ c. omega (
+      arith,
+      above (c .before .before .before),
+      c .before .before .before .before .before .before .pre .known .good .ranges
+          .few-hops,
+    ))
+    (λ c. omega (
+      arith,
+      above (c .before .before .before),
+      c .before .before .before .before .before .before .pre .known .good .ranges
+          .few-hops,
+    ))
     (λ c. omega (arith, port-known (c .before .before .before)))
     (λ c κs. search needs)
     (λ c. omega (arith, apart c))

@@ -54,7 +54,12 @@ put-flow-requires c κs =
     let good = start .pre .good in
     let row : l .h < length (networkOn (start .args .net .now) .hops) = omega arith in
     let hop = ap (λ (x : Hop). x .port) (hop-walked good (c .before .before .before .before .before .hop-row .ensures) row) in
-    omega (arith, c .put-flow-arg .given, gathering-room _ _ _ _ _ _ (l .inv) (good .ranges .few-hops) row (good .ranges) (good .references) (sym hop ∙ c .before .before .before .if1 .taken))
+    omega (
+      arith,
+      c .put-flow-arg .given,
+      gathering-room _ _ _ _ _ _ (l .inv) (good .ranges .few-hops) row (good .ranges)
+          (good .references) (sym hop ∙ c .before .before .before .if1 .taken),
+    )
 
 loop-again : tie.Need-loop-again Inv-loop μ-loop
 loop-again c =

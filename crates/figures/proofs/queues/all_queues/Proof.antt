@@ -1,5 +1,5 @@
--- `figures::queues::all_queues` meets its contract: after i turns the figures of the first i places are noted, and no queue there is without a busy length.
--- Assumes nothing.
+-- `figures::queues::all_queues` meets its contract: after i turns the figures of the first i places are noted, and no queue there is
+-- without a busy length. Assumes nothing.
 use mathlib.Core.Logic.{inl, inr}
 use Prim.Native.Nat.{_-_, _*_, _/_, _%_, _<_}
 use mathlib.Core.Path.{ap}
@@ -22,14 +22,19 @@ loop-holds : tie.Need-loop-holds Inv-loop μ-loop
 loop-holds c = queues-none _ _ (c .before .pre .no-queues)
 
 queue-requires : tie.Need-queue-requires Inv-loop μ-loop
-queue-requires c κs = record { good = c .before .before .before .before .before .before .before .pre .good; row = omega arith; is = c .before .before .before .vl-at .ensures }
+queue-requires c κs = record {
+  good = c .before .before .before .before .before .before .before .pre .good;
+  row = omega arith;
+  is = c .before .before .before .vl-at .ensures;
+}
 
 returns : tie.Need-returns Inv-loop μ-loop
 returns c =
     let good = c .before .before .before .before .before .before .before .before .before .pre .good in
     let l = c .before .before .before .before .before .before .before .loop in
     let links = ap (λ (x : Vl). x .sublinks) (c .before .before .before .before .before .vl-at .ensures) in
-    queues-endless _ (good .ranges) (l .i) (l .queues) (l .inv) (omega arith) (omega (arith, links)) _ (c .before .queue .ensures) _ (c .if2 .taken)
+    queues-endless _ (good .ranges) (l .i) (l .queues) (l .inv) (omega arith) (omega (arith, links)) _ (c .before .queue .ensures) _
+    (c .if2 .taken)
 
 loop-again : tie.Need-loop-again Inv-loop μ-loop
 loop-again c =
@@ -39,12 +44,14 @@ loop-again c =
     let row : l .i < length (net .vls) * 4 = omega arith in
     let links = ap (λ (x : Vl). x .sublinks) (c .before .before .vl-at .ensures) in
     elim (c .if1 .came) [
-      | inl t ↦ rw (t .5) (queues-more net (good .ranges) (l .i) (l .queues) (l .inv) row (omega (arith, links, t .0 .taken)) _ (t .2 .ensures) (t .3 .left))
+      | inl t ↦ rw (t .5) (queues-more net (good .ranges) (l .i) (l .queues) (l .inv) row (omega (arith, links, t .0 .taken)) _
+          (t .2 .ensures) (t .3 .left))
       | inr t ↦ rw (t .2) (queues-passed net (good .ranges) (l .i) (l .queues) (l .inv) row (omega (arith, links, t .0 .left)))
     ]
 
 returns-2 : tie.Need-returns-2 Inv-loop μ-loop
-returns-2 c = let l = c .before .loop in queues-all _ (c .before .before .before .pre .good .ranges) (l .i) (l .queues) (l .inv) (omega arith) _ (c .before .before .vls-in .ensures .0)
+returns-2 c = let l = c .before .loop in queues-all _ (c .before .before .before .pre .good .ranges) (l .i) (l .queues) (l .inv)
+    (omega arith) _ (c .before .before .vls-in .ensures .0)
 
 pub all-queues-spec : {M : Type 1} → statement M
 all-queues-spec =

@@ -10,7 +10,7 @@ use borrow.Author.Needs.{needs}
 use Rattle.figures.proofs.queues.queue_flow.Statement.{statement}
 use Rattle.figures.proofs.queues.queue_flow.Tie as tie
 
--- at most 482 packets on at most 4 sub-links
+-- at most 482 packets on at most 4 sub-links: the products fit whether or not the other sub-links are counted
 few : (c : tie.After-packets) → (c .packets .result ≡ packets (c .before .before .before .args .stream .size) (c .before .before .before .args .vl .lmax)) × (1 ≤ c .packets .result) × (c .packets .result ≤ 482)
 few c =
     let p = c .before .before .before .pre in
@@ -20,10 +20,12 @@ links : (c : tie.After-packets) → c .packets .result * c .before .before .befo
 links c = mul-le-mul (few c .2) (c .before .before .before .pre .vl-range .sub-links-greatest)
 
 mul-t8 : tie.Need-mul-t8
-mul-t8 c = omega (arith, links c)
+mul-t8 c = omega (arith, links c, few c .2)
 
 mul-t9 : tie.Need-mul-t9
-mul-t9 c = omega (arith, mul-le-mul (links (c .before)) (c .before .before .before .before .pre .vl-range .gap-greatest))
+mul-t9 c =
+    let gap = c .before .before .before .before .pre .vl-range .gap-greatest in
+    omega (arith, mul-le-mul (links (c .before)) gap, mul-le-mul (few (c .before) .2) gap)
 
 returns : tie.Need-returns
 returns c =

@@ -45,7 +45,12 @@ put-flow-requires c κs =
     let good = start .pre .good in
     let row : l .s < length (networkOn (start .args .net .now) .streams) = omega arith in
     let stream = stream-walked good (c .before .before .before .before .before .before .stream-row .ensures) row in
-    omega (arith, c .before .put-flow-arg .given, sub-link-room _ _ _ _ _ stream (good .ranges) (good .references) row (c .before .before .before .before .if1 .taken) (c .before .before .if2 .taken) _ _ (l .inv .1))
+    omega (
+      arith,
+      c .before .put-flow-arg .given,
+      sub-link-room _ _ _ _ _ stream (good .ranges) (good .references) row
+          (c .before .before .before .before .if1 .taken) (c .before .before .if2 .taken) _ _ (l .inv .1),
+    )
 
 loop-again : tie.Need-loop-again Inv-loop μ-loop
 loop-again c =
