@@ -23,7 +23,7 @@ abbrev pub lists : (header systems vls streams ports hops : List ℕ) → Lists
 lists header systems vls streams ports hops =
     record { header = header; systems = systems; vls = vls; streams = streams; ports = ports; hops = hops }
 
--- the lists by their sections: the header's is that of section 0, and there is none behind section 5
+-- by the section: the header's list is that of section 0, and behind section 5 there is none
 abbrev pub listsBy : (ℕ → List ℕ) → Lists
 listsBy list = lists (list 0) (list 1) (list 2) (list 3) (list 4) (list 5)
 
@@ -54,6 +54,7 @@ kindFor ls section = kindOf (versionFor ls) section
 unfoldable pub headerOf : List ℕ → List ℕ
 headerOf bytes = map (named 0 (converted Reading (layout 0) (headerRow bytes))) headerNames
 
+-- the list of a section: the header's numbers, and the records of all rows
 abbrev pub listIn : List ℕ → ℕ → List ℕ
 listIn bytes zero = headerOf bytes
 listIn bytes (suc s) = records bytes (suc s) (rows bytes (suc s))
