@@ -25,7 +25,7 @@ pub is-word : Settles 2 is-kinds.ps is-kinds.r is-reads.Post
 is-word κs a x y ws vs p q = (p ∙ sym q, refl)
 
 -- an answer tells its number
-told-settles : (x y : Numeral) → told x ≡ told y → x ≡ y
+pub told-settles : (x y : Numeral) → told x ≡ told y → x ≡ y
 unfolding told
 told-settles (Number m) (Number n) e = ap Number (Option·some-injective m n e)
 told-settles (Number m) NotANumber e = absurd (Option·some-ne-none m e)
