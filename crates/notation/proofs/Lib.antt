@@ -7,3 +7,4 @@ pub mod MeantLaws
 pub mod ShapeLaws
 pub mod FittedLaws
 pub mod LinesLaws
+pub mod Unique

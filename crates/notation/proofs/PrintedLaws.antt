@@ -107,11 +107,6 @@ delay-field v (suc (suc zero)) h = refl
 delay-field v (suc (suc (suc zero))) h = refl
 delay-field v (suc (suc (suc (suc k)))) h = absurd (omega arith)
 
-pub version-field : (v k : ℕ) → k < 1 → getD (layout 0) k blank ≡ getD (lineFields v 6) k blank
-unfolding lineFields layoutIn
-version-field v zero h = refl
-version-field v (suc k) h = absurd (omega arith)
-
 pub record-field : (v s k : ℕ) → (s ≡ 0 → ⊥) → (s ≡ 6 → ⊥) → k < length (lineFields v s)
     → getD (layout (kindOf v s)) k blank ≡ getD (lineFields v s) k blank
 record-field v s k a b h =
@@ -130,7 +125,7 @@ few-fields v s = go (ℕ-discrete s 0) (ℕ-discrete s 6)
     go (no a) (yes e) = rw (e, version-count v) (omega arith)
     go (no a) (no b) = rw (record-count v s a b) (record-few s a)
 
-keyword-short : (s : ℕ) → length (getD keywords s []) ≤ 7
+pub keyword-short : (s : ℕ) → length (getD keywords s []) ≤ 7
 unfolding keywords
 keyword-short s = go (decLt s 7)
   where

@@ -4,3 +4,4 @@ pub mod Printed
 pub mod Back
 pub mod Steps
 pub mod Fitted
+pub mod Called

@@ -1,29 +1,11 @@
 // The sentence of a mistake of a text: its line, and the field or the word.
 // Each fault has its own words between the line and the word that is shown.
-use crate::names::put_keyword;
-use crate::names::put_name;
 use crate::names::put_start;
 use crate::names::put_word;
 use layout::Kind;
 use layout::Name;
-use layout::Shape;
-use layout::places;
 use parser::Fault;
 use parser::Mistake;
-
-// Field k of a line: those of the delays and the version are the header's.
-pub(crate) fn shape_of(version: u64, section: usize, k: usize) -> Shape {
-    match section {
-        0 => match k {
-            0 => layout::shape_at(0, places::SEND_LEAST),
-            1 => layout::shape_at(0, places::SEND_GREATEST),
-            2 => layout::shape_at(0, places::RECEIVE_LEAST),
-            _ => layout::shape_at(0, places::RECEIVE_GREATEST),
-        },
-        6 => layout::shape_at(0, places::VERSION),
-        _ => layout::shape_at(layout::kind_of(version, section), k),
-    }
-}
 
 // What the words of a field have to be.
 fn put_form(line: &mut [u8], at: usize, name: Name) -> usize {
@@ -39,9 +21,9 @@ fn put_form(line: &mut [u8], at: usize, name: Name) -> usize {
 }
 
 fn put_not_said(line: &mut [u8], at: usize, given: &[u8], version: u64, m: Mistake) -> usize {
-    let s = shape_of(version, m.section, m.field);
+    let s = notation::field_at(version, m.section, m.field);
     let name = s.name;
-    let named = put_name(line, at, name);
+    let named = notation::put_name(line, at, name);
     let to = m.to;
     if to <= m.from {
         return text::put_bytes(line, named, b" is missing");
@@ -52,7 +34,7 @@ fn put_not_said(line: &mut [u8], at: usize, given: &[u8], version: u64, m: Mista
 
 fn put_over(line: &mut [u8], at: usize, given: &[u8], m: Mistake) -> usize {
     let a = text::put_bytes(line, at, b"more words than a line of ");
-    let b = put_keyword(line, a, m.section);
+    let b = notation::put_keyword(line, a, m.section);
     let c = text::put_bytes(line, b, b" has: ");
     put_word(line, c, given, m.from, m.to)
 }
@@ -76,7 +58,7 @@ fn put_too_many(line: &mut [u8], at: usize, section: usize) -> usize {
             let a = text::put_bytes(line, at, b"more than ");
             let b = put_most(line, a, section);
             let c = text::put_byte(line, b, b' ');
-            let d = put_keyword(line, c, section);
+            let d = notation::put_keyword(line, c, section);
             text::put_bytes(line, d, b" lines")
         }
     }

@@ -1,8 +1,5 @@
 // The sentence of a table that the writer refuses: the line of the record, what its field has to be, and the word that is there.
 // Line and word are found by a second walk over the text, since lists of numbers do not tell them.
-use crate::mistakes::shape_of;
-use crate::names::put_keyword;
-use crate::names::put_name;
 use crate::names::put_start;
 use crate::names::put_word;
 use layout::Kind;
@@ -60,7 +57,7 @@ fn line_of(given: &[u8], keyword: &[u8], row: u64) -> Line {
 
 fn line_in(given: &[u8], section: usize, row: u64) -> Line {
     let mut keyword = [0u8; KEYWORD];
-    let used = put_keyword(&mut keyword, 0, section);
+    let used = notation::put_keyword(&mut keyword, 0, section);
     if KEYWORD < used {
         return line_of(given, &keyword, row);
     }
@@ -81,9 +78,9 @@ fn word_of(given: &[u8], line: Line, version: u64, section: usize, k: usize) -> 
     let end = line.to;
     let mut word = words::word_at(given, line.from, end);
     for i in 0..k {
-        word = word_behind(given, word, end, shape_of(version, section, i));
+        word = word_behind(given, word, end, notation::field_at(version, section, i));
     }
-    let s = shape_of(version, section, k);
+    let s = notation::field_at(version, section, k);
     word = word_behind(given, word, end, s);
     let name = s.name;
     if let Name::Parent = name {
@@ -159,9 +156,9 @@ fn put_order(line: &mut [u8], at: usize, kind: usize, k: usize) -> usize {
     let o = layout::order_at(kind, k);
     let lesser = o.lesser;
     let greater = o.greater;
-    let a = put_name(line, at, lesser);
+    let a = notation::put_name(line, at, lesser);
     let b = text::put_bytes(line, a, b" is above ");
-    let c = put_name(line, b, greater);
+    let c = notation::put_name(line, b, greater);
     text::put_byte(line, c, b'\n')
 }
 
@@ -175,9 +172,9 @@ fn put_field(
     section: usize,
     k: usize,
 ) -> usize {
-    let s = shape_of(version, section, k);
+    let s = notation::field_at(version, section, k);
     let name = s.name;
-    let named = put_name(line, at, name);
+    let named = notation::put_name(line, at, name);
     let ranged = put_range(line, named, s);
     let behind = text::put_bytes(line, ranged, b", not ");
     let word = word_of(given, record, version, section, k);

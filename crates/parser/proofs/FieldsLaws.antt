@@ -16,13 +16,14 @@ use Rattle.notation.specs.Meant as meant
 use Rattle.notation.specs.Meant.{numbers, wrong, of, fieldsFrom}
 use Rattle.notation.specs.Steps.{shapeFrom}
 use Rattle.notation.proofs.MeantLaws.{withNumbers, with-last, with-wrong, with-none, fields-next, fields-stop, fields-end, fields-over}
-use Rattle.parser.specs.declared.fields.Taken.{Taken}
-use Rattle.parser.specs.declared.fields.Taken.the-variants.{Said, NotSaid}
+use Rattle.fields.specs.declared.Taken.{Taken}
+use Rattle.fields.specs.declared.Taken.the-variants.{Said, NotSaid}
 use Rattle.parser.specs.declared.lines.Sort.{Sort}
 use Rattle.parser.specs.declared.lines.Sort.the-variants.{Wrong}
 use Rattle.parser.specs.declared.lines.Line.{Line}
-use Rattle.parser.specs.Lines.{Behind, takenIn, BehindTaken, Takes, sortBehind, lineTold, Tells}
-use Rattle.parser.proofs.LineLaws.{behind-here, behind-more}
+use Rattle.fields.specs.Fields.{Behind, takenIn, BehindTaken, Takes}
+use Rattle.fields.proofs.FieldLaws.{behind-here, behind-more}
+use Rattle.parser.specs.Lines.{sortBehind, lineTold, Tells}
 
 module _ (text : List ℕ) (at end : ℕ) (ss : List Shape) where
   pub record Reading (ns : List ℕ) (k place : ℕ) : Type 0 where

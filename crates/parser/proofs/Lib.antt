@@ -1,5 +1,4 @@
 pub mod LineLaws
-pub mod NameLaws
 pub mod FieldsLaws
 pub mod FillLaws
 pub mod Unique

@@ -19,7 +19,7 @@ use Rattle.parser.specs.declared.mistakes.Fault.the-variants.{Nothing, U
 use Rattle.parser.specs.declared.mistakes.Mistake.{Mistake}
 use Rattle.parser.specs.declared.lines.Sort.the-variants as sort
 use Rattle.parser.specs.declared.lines.Line.{Line}
-use Rattle.parser.specs.Lines.{placeBehind}
+use Rattle.fields.specs.Fields.{placeBehind}
 
 -- ---- a line
 -- what is wrong with it: of which section and field, and how many words stand before the one that it is said of

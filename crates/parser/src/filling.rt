@@ -6,7 +6,7 @@ use crate::lines::line_of;
 use layout::sizes::LONGEST;
 ghost use mathlib.Core.Path.{_≡_};
 ghost use Prim.Native.Nat.{_≤_};
-ghost use lib.ListN.{length, replicate};
+ghost use lib.ListN.{length};
 ghost use Rattle.notation.specs.Meant.{textLines, sectionIn, versionIn};
 ghost use Rattle.notation.specs.Steps.{fieldsOf};
 ghost use Rattle.notation.specs.Fitted.{held, fitted};
@@ -27,18 +27,6 @@ fn count_in(line: Line, section: usize) -> usize
             0
         }
         Sort::Wrong => 0,
-    }
-}
-
-// Makes every number 0.
-pub(crate) fn clear(list: &mut [u64])
-    ensures { λ _. ⌜ now (list .exit) ≡ replicate (length (now (list .entry))) 0 ⌝ }
-{
-    let n = list.len();
-    let mut k = 0;
-    while k < n {
-        list[k] = 0;
-        k += 1;
     }
 }
 
@@ -67,7 +55,7 @@ pub(crate) fn put_numbers(
 pub fn fill(text: &[u8], version: u64, section: usize, list: &mut [u64]) -> usize
     ensures { λ r. ⌜ (r ≡ length (held (fieldsOf section) (length (now (list .entry))) (sectionIn version section (textLines (now (text .entry)))))) × (now (list .exit) ≡ fitted (fieldsOf section) (length (now (list .entry))) (sectionIn version section (textLines (now (text .entry))))) ⌝ }
 {
-    clear(list);
+    unpacker::clear(list);
     let n = text.len();
     let mut at = 0;
     let mut put = 0;

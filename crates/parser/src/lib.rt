@@ -1,11 +1,9 @@
 // Tables as text, read: the numbers of each section in the list that is lent for it, or the first mistake of a text.
 // Every public routine answers for all input.
-mod fields;
 mod filling;
 mod lines;
 mod mistakes;
 
-use crate::filling::clear;
 use crate::filling::put_numbers;
 use crate::mistakes::is_fault;
 pub use filling::fill;
@@ -76,7 +74,7 @@ fn put_header(text: &[u8], version: u64, list: &mut [u64]) -> usize
         0,
         0,
     ];
-    clear(list);
+    unpacker::clear(list);
     put_numbers(list, 0, row, 5)
 }
 
@@ -86,7 +84,7 @@ fn header_or_zeros(good: bool, text: &[u8], version: u64, list: &mut [u64]) -> u
     if good {
         return put_header(text, version, list);
     }
-    clear(list);
+    unpacker::clear(list);
     0
 }
 
@@ -102,7 +100,7 @@ fn section_or_zeros(
     if good {
         return fill(text, version, section, list);
     }
-    clear(list);
+    unpacker::clear(list);
     0
 }
 

@@ -1,10 +1,6 @@
 // What a line says: its section, and the numbers of its fields or the first that it does not say.
 // The words are taken one after the other from the front.
-use crate::fields::Taken;
-use crate::fields::fields_in;
-use crate::fields::keyword_of;
-use crate::fields::line_shape;
-use crate::fields::shape_taken;
+use fields::Taken;
 use layout::sizes::LONGEST;
 use words::Numeral;
 ghost use mathlib.Core.Path.{_≡_};
@@ -48,12 +44,12 @@ fn sort_behind(text: &[u8], at: usize, end: usize) -> Sort
 fn fields_at(text: &[u8], at: usize, end: usize, version: u64, section: usize) -> Line
     ensures { λ r. ⌜ Tells (now (text .entry)) at end (of section (fieldsFrom (lineFields version section) (wordsOf (part (now (text .entry)) at end)))) r ⌝ }
 {
-    let n = fields_in(section);
+    let n = notation::fields_in(section);
     let mut numbers = [0u64; LONGEST];
     let mut k = 0;
     let mut place = at;
     while k < n {
-        match shape_taken(text, place, end, line_shape(version, section, k)) {
+        match fields::shape_taken(text, place, end, notation::field_at(version, section, k)) {
             Taken::Said(value, next) => {
                 numbers[k] = value;
                 place = next;
@@ -101,7 +97,7 @@ pub(crate) fn line_of(text: &[u8], at: usize, end: usize, version: u64) -> Line
     if next <= word.from {
         return without_fields(Sort::Silent, at);
     }
-    match keyword_of(text, word) {
+    match fields::keyword_of(text, word) {
         Numeral::Number(section) => fields_at(text, next, end, version, section as usize),
         Numeral::NotANumber => without_fields(Sort::Unknown, at),
     }

@@ -1,6 +1,5 @@
 // The first mistake of a text, by its line and the place of the word.
 // One pass over the lines: a line is looked at by itself, and with the lines of its section before it counted.
-use crate::fields::fields_in;
 use crate::lines::Line;
 use crate::lines::Sort;
 use crate::lines::line_of;
@@ -12,7 +11,8 @@ ghost use Rattle.base.specs.Pick.{pick};
 ghost use Rattle.words.specs.Words.{wordsOf};
 ghost use Rattle.words.specs.Places.{part, wordAt};
 ghost use Rattle.notation.specs.Steps.{fieldsOf};
-ghost use Rattle.parser.specs.Lines.{Behind, lineTold};
+ghost use Rattle.fields.specs.Fields.{Behind};
+ghost use Rattle.parser.specs.Lines.{lineTold};
 ghost use Rattle.parser.specs.declared.mistakes.Fault.the-variants.{Nothing, NotSaid, Over, TooMany};
 ghost use Rattle.parser.specs.Mistakes.{madeAt, lineFault, isFault, mistakeAt, countedBy, ofNoLine, mistakeIn};
 
@@ -53,7 +53,7 @@ pub(crate) fn is_fault(fault: Fault) -> bool
 fn field_fault(section: usize, field: usize) -> Fault
     ensures { λ r. ⌜ r ≡ pick (ltb field (fieldsOf section)) NotSaid Over ⌝ }
 {
-    if field < fields_in(section) {
+    if field < notation::fields_in(section) {
         return Fault::NotSaid;
     }
     Fault::Over

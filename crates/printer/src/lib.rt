@@ -4,15 +4,14 @@ use layout::Name;
 use layout::Shape;
 ghost use mathlib.Core.List.{[], _∷_, _++_};
 ghost use mathlib.Core.Path.{_≡_};
-ghost use Prim.Native.Nat.{_<_, min};
+ghost use Prim.Native.Nat.{min};
 ghost use lib.Dec.{eqb};
 ghost use lib.ListN.{getD, length};
 ghost use Rattle.base.specs.Pick.{pick};
-ghost use Rattle.layout.specs.Layout.{blank};
 ghost use Rattle.layout.specs.declared.Name.the-variants as name;
 ghost use Rattle.text.specs.Text.{decimal, Puts};
 ghost use Rattle.words.specs.Printed.{lineFrom, lineOf};
-ghost use Rattle.notation.specs.Notation.{keywords, lineFields, choices, parentWords, fieldWords};
+ghost use Rattle.notation.specs.Notation.{lineFields, choices, parentWords, fieldWords};
 ghost use Rattle.notation.specs.Printed.{fieldsWords, lineWords};
 
 // The line of a record: its keyword, its numbers in words, and the line feed.
@@ -26,26 +25,9 @@ pub fn put_record(
     ensures { λ r.
         ⌜ Puts (now (text .entry)) at (lineOf (lineWords version section (now (numbers .entry))) ++ (10 ∷ [])) r (now (text .exit)) ⌝ }
 {
-    let behind = put_keyword(text, at, section);
+    let behind = notation::put_keyword(text, at, section);
     let end = put_fields(text, behind, version, section, numbers);
     text::put_byte(text, end, b'\n')
-}
-
-fn put_keyword(text: &mut [u8], at: usize, section: usize) -> usize
-    ensures { λ r. ⌜ Puts (now (text .entry)) at (getD keywords section []) r (now (text .exit)) ⌝ }
-{
-    if 6 < section {
-        return at;
-    }
-    match section {
-        0 => text::put_bytes(text, at, b"delays"),
-        1 => text::put_bytes(text, at, b"system"),
-        2 => text::put_bytes(text, at, b"vl"),
-        3 => text::put_bytes(text, at, b"stream"),
-        4 => text::put_bytes(text, at, b"port"),
-        5 => text::put_bytes(text, at, b"hop"),
-        _ => text::put_bytes(text, at, b"version"),
-    }
 }
 
 // The words of the numbers, a space before each.
@@ -57,7 +39,7 @@ fn put_fields(text: &mut [u8], at: usize, version: u64, section: usize, numbers:
     let mut next = at;
     let mut k = 0;
     while k < n {
-        let s = field_at(version, section, k);
+        let s = notation::field_at(version, section, k);
         next = put_field(text, next, s, numbers[k]);
         k += 1;
     }
@@ -68,34 +50,11 @@ fn put_fields(text: &mut [u8], at: usize, version: u64, section: usize, numbers:
 fn put_count(version: u64, section: usize, given: usize) -> usize
     ensures { λ r. ⌜ r ≡ min (length (lineFields version section)) given ⌝ }
 {
-    let n = fields_in(version, section);
+    let n = notation::fields_in(section);
     if given < n {
         return given;
     }
     n
-}
-
-// How many fields a line has.
-fn fields_in(version: u64, section: usize) -> usize
-    ensures { λ r. ⌜ r ≡ length (lineFields version section) ⌝ }
-{
-    match section {
-        0 => 4,
-        6 => 1,
-        _ => layout::numbers_in(section),
-    }
-}
-
-// Field k of a line, blank where it has none.
-fn field_at(version: u64, section: usize, k: usize) -> Shape
-    requires { ⌜ k < length (lineFields version section) ⌝ }
-    ensures { λ r. ⌜ r ≡ getD (lineFields version section) k blank ⌝ }
-{
-    match section {
-        0 => layout::shape_at(0, k + 6),
-        6 => layout::shape_at(0, k),
-        _ => layout::shape_at(layout::kind_of(version, section), k),
-    }
 }
 
 // The words of a number, each with a space before it; a field of 0 bits has none.

@@ -1,7 +1,10 @@
-// The words of docs/TABLE.md: what a section's record, a field and the number in it are called.
+// The words of docs/TABLE.md: what a section's record and the number in a field are called. What a field is called, `notation` says.
 // No number stands here but those of sections and of the parts that are named by one.
 use crate::text;
 use layout::Name;
+
+// The longest name of a field.
+const NAME: usize = 22;
 
 pub fn section(s: usize) {
     match s {
@@ -16,34 +19,10 @@ pub fn section(s: usize) {
 }
 
 pub fn name(n: Name) {
-    match n {
-        Name::Version => text(b"version"),
-        Name::EndSystems => text(b"end systems"),
-        Name::Vls => text(b"VLs"),
-        Name::Streams => text(b"streams"),
-        Name::Ports => text(b"ports"),
-        Name::Hops => text(b"hops"),
-        Name::SendLeast => text(b"send delay least"),
-        Name::SendGreatest => text(b"send delay greatest"),
-        Name::ReceiveLeast => text(b"receive delay least"),
-        Name::ReceiveGreatest => text(b"receive delay greatest"),
-        Name::Padding => text(b"padding"),
-        Name::Speed => text(b"speed"),
-        Name::EndSystem => text(b"end system"),
-        Name::Gap => text(b"gap"),
-        Name::SubLinks => text(b"sub-links"),
-        Name::Lmax => text(b"Lmax"),
-        Name::Vl => text(b"VL"),
-        Name::SubLink => text(b"sub-link"),
-        Name::Kind => text(b"kind"),
-        Name::Size => text(b"M"),
-        Name::LeastSize => text(b"least M"),
-        Name::Period => text(b"period"),
-        Name::Jitter => text(b"jitter"),
-        Name::SwitchLeast => text(b"switch delay least"),
-        Name::SwitchGreatest => text(b"switch delay greatest"),
-        Name::Port => text(b"port"),
-        Name::Parent => text(b"parent"),
+    let mut called = [0u8; NAME];
+    let used = notation::put_name(&mut called, 0, n);
+    if used <= NAME {
+        text(&called[0..used]);
     }
 }
 

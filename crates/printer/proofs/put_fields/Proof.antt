@@ -60,7 +60,7 @@ put-fields-spec =
     μ-loop
     (λ c κs. search needs)
     loop-holds
-    (λ c κs. omega (arith, c .before .before .put-count .ensures))
+    (λ c κs. search needs)
     (λ c. search needs)
     (λ c. search needs)
     (λ c κs. search needs)

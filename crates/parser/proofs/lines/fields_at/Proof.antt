@@ -33,7 +33,7 @@ loop-again : tie.Need-loop-again Inv-loop μ-loop
 loop-again c =
     let a = c .before .before .before .before .before .before .before .before .before .args in
     let l = c .before .before .before .before .before .before .loop in
-    let shape = c .before .before .before .before .line-shape in
+    let shape = c .before .before .before .before .field-at in
     let taken = c .before .before .before .shape-taken in
     rw add-one
     (reading-more (a .text .now) (a .at) (a .end) (lineFields (a .version) (a .section)) (l .numbers) (l .k) (l .place) (l .inv)
@@ -45,7 +45,7 @@ returns : tie.Need-returns Inv-loop μ-loop
 returns c =
     let a = c .before .before .before .before .before .before .before .before .args in
     let l = c .before .before .before .before .before .loop in
-    let shape = c .before .before .before .line-shape in
+    let shape = c .before .before .before .field-at in
     let taken = c .before .before .shape-taken in
     reading-stop (a .text .now) (a .at) (a .end) (lineFields (a .version) (a .section)) (l .numbers) (l .k) (l .place) (l .inv)
     (a .section) (shape .result) (taken .result)

@@ -5,7 +5,8 @@ use mathlib.Core.Path.{_≡_, sym, ap, _∙_}
 use native.Mathlib.Omega.{arith}
 use Rattle.notation.specs.Meant.{lineSaid}
 use Rattle.notation.proofs.MeantLaws.{line-silent, line-unknown, line-of}
-use Rattle.parser.proofs.LineLaws.{none-left, one-more, behind-word, told-number, told-none, tells-bare, told-silent, told-unknown, tells-later}
+use Rattle.fields.proofs.FieldLaws.{none-left, one-more, behind-word, told-number, told-none}
+use Rattle.parser.proofs.LineLaws.{tells-bare, told-silent, told-unknown, tells-later}
 use Rattle.parser.proofs.lines.line_of.Statement.{statement}
 use Rattle.parser.proofs.lines.line_of.Tie as tie
 

@@ -3,7 +3,7 @@
 use borrow.Author.Needs.{needs}
 use native.Mathlib.Omega.{arith}
 use Rattle.parser.specs.Lines.{sortBehind}
-use Rattle.parser.proofs.LineLaws.{none-left, one-more}
+use Rattle.fields.proofs.FieldLaws.{none-left, one-more}
 use Rattle.parser.proofs.lines.sort_behind.Statement.{statement}
 use Rattle.parser.proofs.lines.sort_behind.Tie as tie
 

@@ -12,7 +12,7 @@ use Rattle.notation.specs.Steps.{fieldsOf}
 use Rattle.parser.specs.declared.mistakes.Fault.{Fault}
 use Rattle.parser.specs.declared.mistakes.Fault.the-variants.{NotSaid, Over}
 use Rattle.parser.specs.declared.mistakes.Mistake.{Mistake}
-use Rattle.parser.specs.Lines.{wordsFrom, placeBehind}
+use Rattle.fields.specs.Fields.{wordsFrom, placeBehind}
 use Rattle.parser.specs.Mistakes.{lineFault, mistakeAt, madeAt}
 use Rattle.parser.proofs.LineLaws.{told-silent, told-unknown, told-good, told-wrong}
 use Rattle.parser.proofs.mistakes.mistake_at.Statement.{statement}

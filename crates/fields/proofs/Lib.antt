@@ -1,0 +1,4 @@
+pub mod FieldLaws
+pub mod KeywordLaws
+pub mod NameLaws
+pub mod Unique
