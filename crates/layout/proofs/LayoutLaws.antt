@@ -176,7 +176,8 @@ unfolding kindsOf
 every-version P h version = all-at P versions (getD versions 0 []) h (h .0) (version - 1)
 
 -- the kind of a section, where a fact holds of the kinds of all versions
-pub every-kind : (P : ℕ → Type 0) (s : ℕ) → All (λ ks. P (getD ks s (length (kinds limits)))) versions → (version : ℕ) → P (kindOf version s)
+pub every-kind : (P : ℕ → Type 0) (s : ℕ) → All (λ ks. P (getD ks s (length (kinds limits)))) versions
+    → (version : ℕ) → P (kindOf version s)
 unfolding kindOf
 every-kind P s = every-version (λ ks. P (getD ks s (length (kinds limits))))
 

@@ -30,7 +30,8 @@ use Rattle.layout.proofs.FieldLaws.{number-was, less-one-was, speed-was
 use Rattle.layout.proofs.FaultLaws.{ordered-pass, faultless}
 
 -- ---- what the field at a place means, by its kind, of a record that begins with these fields
-module _ (kind : ℕ) (raw : List ℕ) (ok : rowFault Reading kind raw ≡ none) (n : ℕ) (first : List Shape) (begins : take n (layout kind) ≡ first) where
+module _ (kind : ℕ) (raw : List ℕ) (ok : rowFault Reading kind raw ≡ none) (n : ℕ) (first : List Shape)
+    (begins : take n (layout kind) ≡ first) where
   abbrev meant : ℕ → ℕ
   meant k = getD (converted Reading (layout kind) raw) k 0
 
@@ -64,7 +65,8 @@ module _ (kind : ℕ) (raw : List ℕ) (ok : rowFault Reading kind raw ≡ none)
     less-one-in is = let was = less-one-was (getD raw k 0) (meant k) (told LessOne is) in omega arith
 
 -- the two fields of its only pair
-pair-in : (kind : ℕ) (raw : List ℕ) → rowFault Reading kind raw ≡ none → (a b : ℕ) → orderTests (layout kind) (orders kind) raw ≡ leb a b ∷ [] → a ≤ b
+pair-in : (kind : ℕ) (raw : List ℕ) → rowFault Reading kind raw ≡ none
+    → (a b : ℕ) → orderTests (layout kind) (orders kind) raw ≡ leb a b ∷ [] → a ≤ b
 pair-in kind raw ok a b e =
     leb-true a b (rw e at (ordered-pass (layout kind) (orders kind) raw (faultless Reading kind raw ok .ordered) 0))
 
@@ -212,4 +214,5 @@ port-plain version raw ok =
     let number = number-in kind raw ok 3 (take 3 port) begins in
     let least = number 1 (omega arith) 0 1250 refl in
     let greatest = number 2 (omega arith) 0 1250 refl in
-    record { speed = speed-in kind raw ok 3 (take 3 port) begins 0 (omega arith) refl; delay-least = omega arith; delay-greatest = greatest .1 }
+    let speed = speed-in kind raw ok 3 (take 3 port) begins 0 (omega arith) refl in
+    record { speed = speed; delay-least = omega arith; delay-greatest = greatest .1 }

@@ -82,8 +82,8 @@ layoutIn l kind = getD (kinds l) kind []
 abbrev pub layout : ℕ → List Shape
 layout kind = layoutIn limits kind
 
--- the kinds of the records that each version has in its sections, in order, version 1 first. Every version has the same numbers in the lists:
--- a field that it does not have is one of 0 bits, `Number 0 0`.
+-- the kinds of the records that each version has in its sections, in order, version 1 first. Every version has the same numbers in the
+-- lists: a field that it does not have is one of 0 bits, `Number 0 0`.
 abbrev pub versions : List (List ℕ)
 versions = (0 ∷ 1 ∷ 2 ∷ 3 ∷ 4 ∷ 5 ∷ []) ∷ []
 

@@ -37,7 +37,8 @@ padding-means s k n h = ap (λ (kind : Kind). numberOr0 (meaning kind n)) (unlis
     go true = refl
     go false = refl
 
-pub padding-at : (s k : ℕ) (raw : List ℕ) → listedIn (layout s) ≤ k → k < length (layout s) → getD (converted Reading (layout s) raw) k 0 ≡ 0
+pub padding-at : (s k : ℕ) (raw : List ℕ) → listedIn (layout s) ≤ k → k < length (layout s)
+    → getD (converted Reading (layout s) raw) k 0 ≡ 0
 padding-at s k raw h l = converted-at Reading (layout s) raw k l ∙ padding-means s k (getD raw k 0) h
 
 -- so a row that is meant is what the lists have of it, and zeros

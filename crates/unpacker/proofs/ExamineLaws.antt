@@ -79,7 +79,8 @@ module _ (bytes : List ℕ) where
         go (some test) e =
             let fault = rowFault Reading (kindIn bytes s) (row bytes s i) in
             let first : badRow bytes s ≡ some i =
-            least-is (λ i. isSome (rowFault Reading (kindIn bytes s) (row bytes s i))) 0 (rows bytes s) i (omega arith) (omega arith) (some-told fault test e)
+            least-is (λ i. isSome (rowFault Reading (kindIn bytes s) (row bytes s i))) 0 (rows bytes s) i (omega arith) (omega arith)
+            (some-told fault test e)
             (λ j _ l. none-told (rowFault Reading (kindIn bytes s) (row bytes s j)) (good j l)) in
             sym (row-bad s i test e) ∙ sym (rw (first, answerIn) (ap (answer 4 s i) (number-told fault test e)))
 

@@ -1,4 +1,4 @@
--- `layout::orders::order_fault` meets its contract: the tests are the pairs of each kind, in order, and what they leave of the definition computes.
+-- `layout::orders::order_fault` meets its contract: the tests are the pairs of each kind, and the rest of the definition computes.
 -- Assumes nothing.
 use mathlib.Core.Path.{refl}
 use native.Mathlib.Omega.{arith}

@@ -22,7 +22,7 @@ slice-aggregate-row-at c =
 
 returns : tie.Need-returns
 unfolding headerRow
-returns c = c .row-at .ensures ∙ ap (λ (n : ℕ). wide (rowAt (take n (c .before .before .before .before .args .table .now)) 0 0)) (sym (header-size))
+returns c = c .row-at .ensures ∙ ap (λ (n : ℕ). wide (rowAt (take n (c .before .before .before .before .args .table .now)) 0 0)) (sym header-size)
 
 returns-2 : tie.Need-returns-2
 unfolding headerRow
