@@ -23,7 +23,7 @@ use Rattle.layout.specs.declared.Kind.the-variants.{Number, Reference, Padding,
 use Rattle.layout.specs.declared.Shape.{Shape}
 use Rattle.layout.specs.declared.Way.the-variants.{Writing}
 use Rattle.layout.specs.Names.{numberOf}
-use Rattle.layout.specs.Layout.{layoutIn, header, layout, kindsOf, kindOf, blank}
+use Rattle.layout.specs.Layout.{layoutIn, layout, kindsOf, kindOf, blank}
 use Rattle.layout.specs.Fields.{isPadding, storedAs, convert}
 use Rattle.layout.specs.Rows.{listedIn, listed, converted}
 use Rattle.layout.proofs.FieldLaws.{number-was, padding-converted}

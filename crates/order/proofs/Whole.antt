@@ -20,7 +20,7 @@ use Rattle.frame.specs.Packets.{fullPacket, packets}
 use Rattle.frame.specs.Tick.{perMs, perByte, perUnit, sendBase, sendLimit, inTime}
 use Rattle.bits.specs.Bits.{digit, bitAt, fieldAt}
 use Rattle.bits.specs.Rows.{readAll}
-use Rattle.layout.specs.Layout.{vl, port, layoutIn, kindsOf, kindOf, orders, widths, size}
+use Rattle.layout.specs.Layout.{layoutIn, kindsOf, kindOf, orders, widths, size}
 use Rattle.layout.specs.Fields.{isPadding, meaning, convert}
 use Rattle.layout.specs.Names.{numberOf, indexIn}
 use Rattle.layout.specs.Rows.{rowRoom, rowAt, named, converted, listedIn, listed, fieldTests, orderTests, rowFaultIn}

@@ -18,7 +18,7 @@ use Rattle.bits.proofs.PartLaws.{fit-at}
 use Rattle.bits.proofs.RecordLaws.{read-part}
 use Rattle.layout.specs.declared.Way.{Way}
 use Rattle.layout.specs.declared.Way.the-variants.{Reading, Writing}
-use Rattle.layout.specs.Layout.{header, layoutIn, layout, kindOf, headerNames, widths, size}
+use Rattle.layout.specs.Layout.{layoutIn, layout, kindOf, headerNames, widths, size}
 use Rattle.layout.specs.Names.{numberOf, indexIn}
 use Rattle.layout.specs.Rows.{rowAt, named, converted, rowFault}
 use Rattle.layout.proofs.LayoutLaws.{header-fields, header-listed, header-kind, length-widths, whole-bytes, size-most}

@@ -12,7 +12,7 @@ use Rattle.bits.specs.Rows.{readAll}
 use Rattle.bits.specs.Tables.{Fit}
 use Rattle.layout.specs.declared.Way.the-variants.{Reading, Writing}
 use Rattle.layout.specs.Names.{numberOf, indexIn}
-use Rattle.layout.specs.Layout.{header, layoutIn, layout, kindOf, headerNames, widths, size}
+use Rattle.layout.specs.Layout.{layoutIn, layout, kindOf, headerNames, widths, size}
 use Rattle.layout.specs.Rows.{named, converted, listed, rowFault}
 use Rattle.layout.proofs.LayoutLaws.{whole-bytes, header-size, header-kind}
 use Rattle.layout.proofs.RoomLaws.{room-yes, row-there}
