@@ -2,7 +2,6 @@
 -- Assumes nothing.
 use Prim.Native.Nat.{ℕ, _≤_, _<_}
 use mathlib.Core.List.{List}
-use mathlib.Core.Option.{some}
 use mathlib.Core.Path.{_≡_, sym, ap, _∙_}
 use native.Mathlib.Omega.{arith}
 use lib.ListN.{length}
@@ -90,9 +89,6 @@ module _ {sheet : List ℕ} (good : Good sheet) where
   pub hop-names : {h : ℕ} {r : Hop} → r ≡ hopAt (networkOn sheet) h → h < length (networkOn sheet .hops)
       → (r .vl < length (networkOn sheet .vls)) × (r .port < length (networkOn sheet .ports))
   hop-names {h} is row = rw is (good .references .hop-vl h row, good .references .hop-port h row)
-
-  pub parent-there : {h g : ℕ} → parentAt (networkOn sheet) h ≡ some g → h < length (networkOn sheet .hops) → g < length (networkOn sheet .hops)
-  parent-there {h} {g} e row = omega (arith, good .references .parent-earlier h g row e)
 
 -- the parent of a hop that was read
 pub parent-read : (net : Network) (h : ℕ) {r : Hop} {x : Parent} → r ≡ hopAt net h → r .parent ≡ x → parentAt net h ≡ parentIn x

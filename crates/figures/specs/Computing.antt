@@ -1,6 +1,6 @@
 -- What the private functions promise one another: the first row that fails a test, ranges that keep sums and products small, and what the
 -- lists of waits, queue figures, jitters and figures hold on the way. Nothing here has to be believed. Assumes nothing.
-use Prim.Native.Nat.{ℕ, suc, _+_, _*_, _≤_, _<_}
+use Prim.Native.Nat.{ℕ, suc, _*_, _≤_, _<_}
 use mathlib.Core.Bool.{Bool, true, false, _&&_, not}
 use mathlib.Core.List.{List, map}
 use mathlib.Core.Path.{_≡_}
@@ -24,7 +24,7 @@ use Rattle.table.specs.Sections.{lent}
 use Rattle.sheet.specs.declared.Delays.{Delays}
 use Rattle.sheet.specs.Sheet.{networkOn, Good}
 use Rattle.figures.specs.declared.flows.Outcome.{Outcome}
-use Rattle.figures.specs.Figures.{waitsOf, queueAt, queuesOf, hopFigures}
+use Rattle.figures.specs.Figures.{waitsOf, queuesOf, hopFigures}
 
 -- ---- the first of n rows that a test is true of, and n where there is none
 pub record First (test : ℕ → Bool) (n r : ℕ) : Type 0 where

@@ -5,7 +5,6 @@ use mathlib.Core.Path.{_≡_, refl, ap}
 use native.Mathlib.Nat.{mul-le-mul}
 use native.Mathlib.Omega.{arith}
 use Rattle.frame.specs.Frame.{largestLine}
-use Rattle.sheet.specs.Sheet.{networkOn}
 use Rattle.figures.specs.Computing.{OnLink}
 use Rattle.figures.proofs.GivenLaws.{line-is}
 use Rattle.figures.proofs.LinkLaws.{sent-by, least-sent-by}

@@ -8,7 +8,6 @@ use Rattle.network.specs.declared.Vl.{Vl}
 use Rattle.network.specs.declared.Stream.{Stream}
 use Rattle.network.specs.Ranges.{VlRange}
 use Rattle.frame.specs.Packets.{packets}
-use Rattle.sheet.specs.Sheet.{networkOn}
 use Rattle.figures.proofs.GivenLaws.{packets-are}
 use Rattle.figures.proofs.RangeLaws.{vl-range, stream-range, stream-vl}
 use Rattle.analysis.proofs.RowLaws.{gaps-read}

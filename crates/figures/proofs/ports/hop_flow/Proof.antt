@@ -1,6 +1,5 @@
 -- `figures::ports::hop_flow` meets its contract: gap and frames of the hop's VL, on its port's link, and by how much its frames are apart behind the switch.
 -- Assumes nothing.
-use native.Mathlib.Omega.{arith}
 use Rattle.sheet.specs.Sheet.{networkOn}
 use Rattle.figures.proofs.HopLaws.{hop-flow-is}
 use Rattle.figures.proofs.RangeLaws.{hop-names, port-range, vl-on-port}

@@ -1,7 +1,7 @@
 -- `figures::queues::all_queues` meets its contract: after i turns the figures of the first i places are noted, and no queue there is
 -- without a busy length. Assumes nothing.
 use mathlib.Core.Logic.{inl, inr}
-use Prim.Native.Nat.{_-_, _*_, _/_, _%_, _<_}
+use Prim.Native.Nat.{_-_, _*_, _<_}
 use mathlib.Core.Path.{ap}
 use native.Mathlib.Omega.{arith}
 use lib.ListN.{length}
