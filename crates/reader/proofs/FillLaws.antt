@@ -8,14 +8,13 @@ use native.Mathlib.Nat.{le-div-iff-mul-le, mul-le-mul-right}
 use native.Mathlib.Omega.{arith}
 use borrow.Author.Tests.{lt-ltb, eq-eqb, ne-eqb}
 use lib.Dec.{ltb}
-use lib.ListN.{length, getD, take, drop, replicate, length-append, length-drop}
-use lib.Seq.{take-append-seam, length-take-le, getD-take, getD-drop}
+use lib.ListN.{length, getD, take, drop, replicate, length-append, replicate-append-replicate}
+use lib.Seq.{getD-take, getD-drop, take-at, drop-append-add}
 use Rattle.base.specs.Tabulate.{tabulate}
 use Rattle.base.proofs.TabulateLaws.{tabulate-at}
 use Rattle.base.proofs.Tests.{within-yes}
 use Rattle.layout.specs.Names.{numberOf, indexIn}
 use Rattle.layout.specs.Rows.{named, listed}
-use Rattle.layout.specs.Limits.{most}
 use Rattle.layout.specs.Layout.{layoutIn, headerNames}
 use Rattle.layout.specs.Sizes.{capacity, place}
 use Rattle.layout.proofs.LayoutLaws.{listed-is}
@@ -29,6 +28,8 @@ use Rattle.table.specs.Sections.{rows, records, lent}
 use Rattle.table.specs.Lists.{listFor, recordsIn, recordAt, headerOf, unpacked}
 use Rattle.table.specs.Read.{networkIn, answer5, answer6, readAnswer}
 use Rattle.table.proofs.AnswerLaws.{Sound}
+use Rattle.table.proofs.LentLaws.{length-lent, lent-whole}
+use Rattle.table.proofs.SectionLaws.{length-records}
 use Rattle.table.proofs.HeaderLaws.{five}
 use Rattle.layout.proofs.LayoutLaws.{listed-some}
 use Rattle.table.proofs.UnpackLaws.{list-is, length-list, length-header}
@@ -38,26 +39,33 @@ use Rattle.table.proofs.ReadLaws.{count-read, record-read, read-references, rea
 use Rattle.unpacker.specs.Unpacking.{tableAnswer, fitting}
 use Rattle.sheet.specs.Sheet.{readAs, networkOn, Good, block, blocks, sheetOf}
 use Rattle.reader.specs.Reading.{readSheet}
-use Rattle.sheet.proofs.BlockLaws.{Held, length-block, length-blocks, network-same}
+use Rattle.sheet.proofs.BlockLaws.{Held, length-blocks, network-same}
 
--- ---- one part more behind the front that is known
-pub put-next : (s t p front : List ℕ) (a b : ℕ) → take a s ≡ front → a ≤ b → b ≤ length s → length p ≡ b - a → t ≡ take a s ++ (p ++ drop b s)
-    → (take b t ≡ front ++ p) × (length t ≡ length s)
-put-next s t p front a b known low high long e =
-    let here = length-take-le a s (omega arith) in
-    let whole : length (front ++ p) ≡ b = omega (arith, length-append front p, ap length known) in
-    let is : t ≡ (front ++ p) ++ drop b s = e ∙ ap (λ (f : List ℕ). f ++ (p ++ drop b s)) known ∙ sym (append-assoc front p (drop b s)) in (
-      ap₂ (λ (n : ℕ) (l : List ℕ). take n l) (sym whole) is ∙ take-append-seam (front ++ p) (drop b s),
-      omega (arith, ap length is, length-append (front ++ p) (drop b s), length-drop b s),
-    )
+-- ---- zeros, and a list that is lent behind a front
+drop-zeros : (k n : ℕ) → drop k (replicate {A = ℕ} n 0) ≡ replicate (n - k) 0
+drop-zeros zero n = let e : n ≡ n - 0 = omega arith in ap (λ (m : ℕ). replicate m 0) e
+drop-zeros (suc k) zero = let e : 0 ≡ 0 - suc k = omega arith in ap (λ (m : ℕ). replicate m 0) e
+drop-zeros (suc k) (suc n) = let e : n - k ≡ suc n - suc k = omega arith in drop-zeros k n ∙ ap (λ (m : ℕ). replicate m 0) e
+
+lent-behind : (n c : ℕ) (front xs : List ℕ) → length xs ≤ c → length front + c ≤ n → front ++ lent (n - length front) xs ≡ lent n (front ++ lent c xs)
+unfolding lent
+lent-behind n c front xs h l =
+    let zeros = replicate {A = ℕ} (n - length (front ++ lent c xs)) 0 in
+    let e : c - length xs + (n - length (front ++ lent c xs)) ≡ n - length front - length xs = omega (arith, length-append front (lent c xs), length-lent c xs h) in
+    sym
+    (append-assoc front (lent c xs) zeros
+    ∙ ap (λ (r : List ℕ). front ++ r)
+    (append-assoc xs (replicate (c - length xs) 0) zeros ∙ ap (λ (r : List ℕ). xs ++ r) (replicate-append-replicate (c - length xs) (n - length (front ++ lent c xs)) 0 ∙ ap (λ (m : ℕ). replicate m 0) e)))
 
 -- ---- the header's numbers and the counts
+pub count-at : (bytes n : List ℕ) → n ≡ tabulate (rows bytes) 6 → (s : ℕ) → s < 6 → getD n s 0 ≡ rows bytes s
+count-at bytes n e s h = ap (λ (l : List ℕ). getD l s 0) e ∙ tabulate-at (rows bytes) 6 s 0 h
+
 pub head-is : (bytes d n : List ℕ) → d ≡ headerOf bytes → n ≡ tabulate (rows bytes) 6
     → getD d 0 0 ∷ getD d 1 0 ∷ getD d 2 0 ∷ getD d 3 0 ∷ getD d 4 0 ∷ getD n 1 0 ∷ getD n 2 0 ∷ getD n 3 0 ∷ getD n 4 0 ∷ getD n 5 0 ∷ [] ≡ block (unpacked bytes) 0
 unfolding block unpacked
 head-is bytes d n e f =
-    let count : (s : ℕ) → suc s < 6 → getD n (suc s) 0 ≡ recordsIn (unpacked bytes) (suc s)
-    = λ s h. ap (λ (l : List ℕ). getD l (suc s) 0) f ∙ tabulate-at (rows bytes) 6 (suc s) 0 h ∙ sym (count-read bytes s h) in
+    let count : (s : ℕ) → suc s < 6 → getD n (suc s) 0 ≡ recordsIn (unpacked bytes) (suc s) = λ s h. count-at bytes n f (suc s) h ∙ sym (count-read bytes s h) in
     let counts =
     recordsIn (unpacked bytes) 1 ∷ recordsIn (unpacked bytes) 2 ∷ recordsIn (unpacked bytes) 3 ∷ recordsIn (unpacked bytes) 4 ∷ recordsIn (unpacked bytes) 5 ∷ [] in
     rw (count 0 (omega arith), count 1 (omega arith), count 2 (omega arith), count 3 (omega arith), count 4 (omega arith), e)
@@ -70,19 +78,11 @@ own-sound bytes e = own-accepted bytes e .0
 
 module _ (bytes : List ℕ) (sound : Sound bytes) where
   -- ---- all records of a section fit
-  all-fit : (s : ℕ) → suc s < 6 → fitting bytes (suc s) (capacity (suc s)) ≡ rows bytes (suc s)
-  unfolding fitting capacity
-  all-fit s h =
-      let some = listed-some (suc s) h in
-      let room : rows bytes (suc s) ≤ most (suc s) * listed (suc s) / listed (suc s) = le-div-iff-mul-le {k = listed (suc s)} some .1 (mul-le-mul-right (listed (suc s)) (few bytes (sound .header) s h)) in
-      rw (within-yes 1 5 (suc s) (omega arith, omega arith)) (omega (arith, room))
-
-  pub section-block : (s n : ℕ) → suc s < 6 → n ≡ capacity (suc s) → lent n (records bytes (suc s) (fitting bytes (suc s) n)) ≡ block (unpacked bytes) (suc s)
-  unfolding block
-  section-block s n h e =
-      ap (λ (m : ℕ). lent m (records bytes (suc s) (fitting bytes (suc s) m))) e
-      ∙ ap (λ (m : ℕ). lent (capacity (suc s)) (records bytes (suc s) m)) (all-fit s h)
-      ∙ ap (lent (capacity (suc s))) (sym (list-is bytes (suc s) h))
+  all-fit : (s room : ℕ) → suc s < 6 → rows bytes (suc s) * listed (suc s) ≤ room → fitting bytes (suc s) room ≡ rows bytes (suc s)
+  unfolding fitting
+  all-fit s room h l =
+      let fits : rows bytes (suc s) ≤ room / listed (suc s) = le-div-iff-mul-le {k = listed (suc s)} (listed-some (suc s) h) .1 l in
+      rw (within-yes 1 5 (suc s) (omega arith, omega arith)) (omega (arith, fits))
 
   header-whole : length (unpacked bytes .header) ≡ length headerNames
   unfolding unpacked
@@ -124,33 +124,64 @@ module _ (bytes : List ℕ) (sound : Sound bytes) where
   unfolding networkIn
   network-read = network-same (unpacked bytes) held
 
--- ---- the steps of filling: the front holds the blocks up to a section's place
-pub head-put : (s t head bytes : List ℕ) → length s ≡ place 6 → head ≡ block (unpacked bytes) 0 → t ≡ head ++ drop (length head) s
-    → (take (place 1) t ≡ blocks (unpacked bytes) 1) × (length t ≡ place 6)
-unfolding block unpacked blocks place capacity
-head-put s t head bytes long is e =
-    let counts = recordsIn (unpacked bytes) 1 ∷ recordsIn (unpacked bytes) 2 ∷ recordsIn (unpacked bytes) 3 ∷ recordsIn (unpacked bytes) 4 ∷ recordsIn (unpacked bytes) 5 ∷ [] in
-    let whole : length head ≡ place 1 = omega (arith, ap length is, length-append (headerOf bytes) counts, length-header bytes) in
-    let room = place-le 1 6 (omega arith) in (
-      ap₂ (λ (n : ℕ) (l : List ℕ). take n l) (sym whole) e ∙ take-append-seam head (drop (length head) s) ∙ is,
-      omega (arith, ap length e, length-append head (drop (length head) s), length-drop (length head) s),
-    )
+-- ---- the steps of filling: the sheet holds the blocks up to a section's place, and zeros
+pub head-put : (s t head bytes : List ℕ) → s ≡ replicate (place 6) 0 → head ≡ block (unpacked bytes) 0 → t ≡ head ++ drop (length head) s
+    → t ≡ lent (place 6) (blocks (unpacked bytes) 1)
+unfolding blocks lent
+head-put s t head bytes zeros is e =
+    e ∙ ap (λ (r : List ℕ). head ++ r) (ap (drop (length head)) zeros ∙ drop-zeros (length head) (place 6)) ∙ ap (lent (place 6)) is
 
--- a section's records, from its place a to the next place b
-pub section-put : (bytes : List ℕ) → tableAnswer bytes .number ≡ 0 → (k a b : ℕ) → suc k < 6 → place (suc k) ≡ a → place (suc (suc k)) ≡ b → (s t : List ℕ)
-    → take (place (suc k)) s ≡ blocks (unpacked bytes) (suc k) → length s ≡ place 6
-    → t ≡ take a s ++ (lent (b - a) (records bytes (suc k) (fitting bytes (suc k) (b - a))) ++ drop b s)
-    → (take (place (suc (suc k))) t ≡ blocks (unpacked bytes) (suc (suc k))) × (length t ≡ place 6)
-unfolding blocks place
-section-put bytes none-given k a b h at-a at-b s t front long e =
-    let sound = own-sound bytes none-given in
-    let size : b - a ≡ capacity (suc k) = omega arith in
-    let is = section-block bytes sound k (b - a) h size in
-    let p = lent (b - a) (records bytes (suc k) (fitting bytes (suc k) (b - a))) in
-    let whole : length p ≡ b - a = omega (arith, ap length is, length-block (unpacked bytes) (held bytes sound) (suc k) h) in
-    let known : take a s ≡ blocks (unpacked bytes) (suc k) = ap (λ (n : ℕ). take n s) (sym at-a) ∙ front in
-    let next = put-next s t p (blocks (unpacked bytes) (suc k)) a b known (omega arith) (omega (arith, place-le (suc (suc k)) 6 h)) whole e in
-    (ap (λ (n : ℕ). take n t) at-b ∙ next .0 ∙ ap (λ (r : List ℕ). blocks (unpacked bytes) (suc k) ++ r) is, omega (arith, next .1))
+-- a section's records, from its place on
+module _ (bytes : List ℕ) (accepts : tableAnswer bytes .number ≡ 0) (k a n m : ℕ) (h : suc k < 6) (at : place (suc k) ≡ a) (of-n : n ≡ rows bytes (suc k))
+    (of-m : listed (suc k) ≡ m) (s : List ℕ) (so-far : s ≡ lent (place 6) (blocks (unpacked bytes) (suc k))) where
+  front : List ℕ
+  front = blocks (unpacked bytes) (suc k)
+
+  xs : List ℕ
+  xs = records bytes (suc k) (rows bytes (suc k))
+
+  sound : Sound bytes
+  sound = own-sound bytes accepts
+
+  long : length front ≡ a
+  unfolding front
+  long = length-blocks (unpacked bytes) (held bytes sound) (suc k) (omega arith) ∙ at
+
+  size : length xs ≡ n * m
+  unfolding xs
+  size = length-records bytes (suc k) (rows bytes (suc k)) ∙ ap₂ (λ (i j : ℕ). i * j) (sym of-n) of-m
+
+  fits : (length xs ≤ capacity (suc k)) × (a + capacity (suc k) ≤ place 6)
+  unfolding capacity place xs
+  fits =
+      (omega (arith, length-records bytes (suc k) (rows bytes (suc k)), mul-le-mul-right (listed (suc k)) (few bytes (sound .header) k h)), omega (arith, place-le (suc (suc k)) 6 h))
+
+  pub section-room : a + n * m ≤ length s
+  unfolding front
+  section-room = omega (arith, fits, size, long, ap length so-far, length-lent (place 6) front (omega (arith, fits, long)))
+
+  pub section-put : (t : List ℕ) → t ≡ take a s ++ (lent (n * m) (records bytes (suc k) (fitting bytes (suc k) (n * m))) ++ drop (a + n * m) s)
+      → t ≡ lent (place 6) (blocks (unpacked bytes) (suc (suc k)))
+  unfolding blocks block lent front xs
+  section-put t e =
+      let zeros = replicate {A = ℕ} (place 6 - length front) 0 in
+      let room : rows bytes (suc k) * listed (suc k) ≤ n * m = rw (of-n, of-m) (omega arith) in
+      let part : lent (n * m) (records bytes (suc k) (fitting bytes (suc k) (n * m))) ≡ xs =
+      ap (λ (i : ℕ). lent (n * m) (records bytes (suc k) i)) (all-fit bytes sound k (n * m) h room) ∙ lent-whole (n * m) xs (omega (arith, size)) in
+      let rest : drop (a + n * m) s ≡ replicate (place 6 - length front - length xs) 0 =
+      ap₂ (λ (i : ℕ) (l : List ℕ). drop (i + n * m) l) (sym long) so-far
+      ∙ drop-append-add front zeros (n * m)
+      ∙ drop-zeros (n * m) (place 6 - length front)
+      ∙ ap (λ (i : ℕ). replicate (place 6 - length front - i) 0) (sym size) in
+      let kept : take a s ≡ front = ap (take a) so-far ∙ take-at front zeros a long in
+      e
+      ∙ (λ i. kept i ++ (part i ++ rest i))
+      ∙ lent-behind (place 6) (capacity (suc k)) front xs (fits .0) (omega (arith, fits, long))
+      ∙ ap (λ (r : List ℕ). lent (place 6) (front ++ lent (capacity (suc k)) r)) (sym (list-is bytes (suc k) h))
+
+pub all-put : (bytes t : List ℕ) → tableAnswer bytes .number ≡ 0 → t ≡ lent (place 6) (blocks (unpacked bytes) 6) → t ≡ sheetOf (unpacked bytes)
+unfolding sheetOf
+all-put bytes t accepts e = e ∙ lent-whole (place 6) (blocks (unpacked bytes) 6) (omega (arith, length-blocks (unpacked bytes) (held bytes (own-sound bytes accepts)) 6 (omega arith)))
 
 -- ---- the answer and the sheet that is left
 some-number : (n : ℕ) → ltb 0 n ≡ true → 0 < n

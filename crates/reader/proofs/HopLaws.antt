@@ -6,7 +6,7 @@ use mathlib.Core.Option.{none, some, Option·none-ne-some, Option·some-injectiv
 use mathlib.Core.Path.{_≡_, refl, sym, ap, _∙_}
 use native.Mathlib.Omega.{arith}
 use borrow.Author.Tests.{lt-ltb, le-ltb}
-use lib.Dec.{leb}
+use lib.Dec.{ltb, leb}
 use lib.ListN.{length}
 use Rattle.base.specs.Pick.{pick}
 use Rattle.base.specs.Said.{ruled}
@@ -17,6 +17,7 @@ use Rattle.frame.specs.declared.Reply.{Reply}
 use Rattle.frame.specs.declared.Reply.the-variants.{Value, Refused}
 use Rattle.frame.proofs.PacketLaws.{packets-given}
 use Rattle.frame.proofs.ReplyLaws.{value-was, refused-was}
+use Rattle.network.specs.declared.Hop.{Hop}
 use Rattle.network.specs.Network.{Network, vlAt, streamAt, hopAt, parentAt}
 use Rattle.network.specs.References.{hopNamesVl, namesPort, parentEarlier, parentSameVl, parentLowerPort, noEarlierTwin, routeLonger, notTooDeep, refFault, oneSample}
 use Rattle.network.proofs.ReferenceLaws.{hop-row}
@@ -36,21 +37,27 @@ all-of true true false e = absurd (omega arith)
 all-of true false d e = absurd (omega arith)
 all-of false b d e = absurd (omega arith)
 
--- ---- a hop
-module _ (net : Network) (h : ℕ) where
-  pub hop-no-vl : length (net .vls) ≤ hopAt net h .vl → answer 5 5 h 0 ≡ rowAnswer net 5 h
-  hop-no-vl m = sym (row-refused net 5 h 0 (hop-fails-0 net h (hop-names-vl-is net h ∙ le-ltb _ _ m)))
+-- ---- a hop as it was read
+module _ (net : Network) (h : ℕ) (hop : Hop) (read : hop ≡ hopAt net h) where
+  vl-tested : hopNamesVl net h ≡ ltb (hop .vl) (length (net .vls))
+  vl-tested = hop-names-vl-is net h ∙ ap (λ (x : Hop). ltb (x .vl) (length (net .vls))) (sym read)
 
-  module _ (vl : hopAt net h .vl < length (net .vls)) where
+  port-tested : namesPort net h ≡ ltb (hop .port) (length (net .ports))
+  port-tested = names-port-is net h ∙ ap (λ (x : Hop). ltb (x .port) (length (net .ports))) (sym read)
+
+  pub hop-no-vl : length (net .vls) ≤ hop .vl → answer 5 5 h 0 ≡ rowAnswer net 5 h
+  hop-no-vl m = sym (row-refused net 5 h 0 (hop-fails-0 net h (vl-tested ∙ le-ltb _ _ m)))
+
+  module _ (vl : hop .vl < length (net .vls)) where
     names-vl : hopNamesVl net h ≡ true
-    names-vl = hop-names-vl-is net h ∙ lt-ltb _ _ vl
+    names-vl = vl-tested ∙ lt-ltb _ _ vl
 
-    pub hop-no-port : length (net .ports) ≤ hopAt net h .port → answer 5 5 h 1 ≡ rowAnswer net 5 h
-    hop-no-port m = sym (row-refused net 5 h 1 (hop-fails-1 net h names-vl (names-port-is net h ∙ le-ltb _ _ m)))
+    pub hop-no-port : length (net .ports) ≤ hop .port → answer 5 5 h 1 ≡ rowAnswer net 5 h
+    hop-no-port m = sym (row-refused net 5 h 1 (hop-fails-1 net h names-vl (port-tested ∙ le-ltb _ _ m)))
 
-    module _ (port : hopAt net h .port < length (net .ports)) where
+    module _ (port : hop .port < length (net .ports)) where
       names-the-port : namesPort net h ≡ true
-      names-the-port = names-port-is net h ∙ lt-ltb _ _ port
+      names-the-port = port-tested ∙ lt-ltb _ _ port
 
       pub hop-bad-parent : (p : ℕ) → p ≡ parentFault net h → 0 < p → answer 5 5 h p ≡ rowAnswer net 5 h
       unfolding parentFault

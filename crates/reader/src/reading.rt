@@ -1,5 +1,5 @@
 // The reader over the unpacker: what that refuses is refused, and else the references are tested on the sheet that it filled.
-// The table's bits are read twice: once to test its rows, once to fill the sheet, which is handed out.
+// The table's bits are read twice: once to test its rows, once to fill the sheet, which is handed out. It is cleared once and first, so that a caller's own zeros are spared.
 use crate::loading;
 use crate::references;
 use layout::sizes::SHEET;
@@ -12,9 +12,9 @@ ghost use Rattle.reader.specs.Reading.{readSheet};
 pub fn read(table: &[u8], sheet: &mut [u64; SHEET]) -> Answer
     ensures { λ r. ⌜ (r ≡ readAnswer (now (table .entry))) × (now (sheet .exit) ≡ readSheet (now (table .entry))) ⌝ }
 {
+    unpacker::clear(sheet);
     let own = unpacker::own_answer(table);
     if references::is_refusal(own) {
-        unpacker::clear(sheet);
         return own;
     }
     loading::load(table, sheet);

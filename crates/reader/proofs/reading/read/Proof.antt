@@ -13,25 +13,34 @@ use Rattle.reader.proofs.reading.read.Tie as tie
 
 returns : tie.Need-returns
 returns c =
-    let long : length (c .before .before .before .before .before .before .args .sheet .now) ≡ place 6 = omega (arith, places-are) in
-    refused-read (c .before .before .before .before .before .before .args .table .now) _ _ (c .before .before .before .before .own-answer .ensures) (sym (c .before .before .before .is-refusal .ensures) ∙ c .before .before .if1 .taken)
-    (c .clear .ensures ∙ ap (λ (n : ℕ). replicate n 0) long)
+    let a = c .before .before .before .before .before .before .args in
+    let long : length (a .sheet .now) ≡ place 6 = omega (arith, places-are) in
+    refused-read (a .table .now) _ _ (c .before .before .own-answer .ensures) (sym (c .before .is-refusal .ensures) ∙ c .if1 .taken)
+    (c .before .before .before .clear .ensures ∙ ap (λ (n : ℕ). replicate n 0) long)
 
 load-requires : tie.Need-load-requires
-load-requires c κs = (none-given (c .before .before .before .before .before .args .table .now) _ (c .before .before .before .own-answer .ensures) (sym (c .before .before .is-refusal .ensures) ∙ c .before .if1 .left), omega (arith, places-are))
+load-requires c κs =
+    let a = c .before .before .before .before .before .before .before .args in
+    let bytes = a .table .now in
+    let long : length (a .sheet .now) ≡ place 6 = omega (arith, places-are) in
+    (none-given bytes _ (c .before .before .before .own-answer .ensures) (sym (c .before .before .is-refusal .ensures) ∙ c .before .if1 .left), c .before .before .before .before .clear .ensures ∙ ap (λ (n : ℕ). replicate n 0) long)
 
 references-requires : tie.Need-references-requires
-references-requires c κs = sheet-ranges (c .before .before .before .before .before .before .before .args .table .now) _ (none-given (c .before .before .before .before .before .before .before .args .table .now) _ (c .before .before .before .before .before .own-answer .ensures) (sym (c .before .before .before .before .is-refusal .ensures) ∙ c .before .before .before .if1 .left)) (c .before .load .ensures)
+references-requires c κs =
+    let bytes = c .before .before .before .before .before .before .before .before .before .args .table .now in
+    sheet-ranges bytes _ (none-given bytes _ (c .before .before .before .before .before .own-answer .ensures) (sym (c .before .before .before .before .is-refusal .ensures) ∙ c .before .before .before .if1 .left)) (c .before .load .ensures)
 
 returns-2 : tie.Need-returns-2
 returns-2 c =
-    let bytes = c .before .before .before .before .before .before .before .before .before .before .before .before .args .table .now in
-    refused-left bytes _ (none-given bytes _ (c .before .before .before .before .before .before .before .before .before .before .own-answer .ensures) (sym (c .before .before .before .before .before .before .before .before .before .is-refusal .ensures) ∙ c .before .before .before .before .before .before .before .before .if1 .left)) (c .before .before .before .before .before .before .load .ensures) _ _ (c .before .before .before .before .references .ensures) (sym (c .before .before .before .is-refusal2 .ensures) ∙ c .before .before .if2 .taken) (c .clear2 .ensures)
+    let bytes = c .before .before .before .before .before .before .before .before .before .before .before .before .before .before .args .table .now in
+    refused-left bytes _ (none-given bytes _ (c .before .before .before .before .before .before .before .before .before .before .own-answer .ensures) (sym (c .before .before .before .before .before .before .before .before .before .is-refusal .ensures) ∙ c .before .before .before .before .before .before .before .before .if1 .left)) (c .before .before .before .before .before .before .load .ensures) _ _ (c .before .before .before .before .references .ensures)
+    (sym (c .before .before .before .is-refusal2 .ensures) ∙ c .before .before .if2 .taken) (c .clear2 .ensures)
 
 returns-3 : tie.Need-returns-3
 returns-3 c =
-    let bytes = c .before .before .before .before .before .before .before .before .before .before .args .table .now in
-    accepted-left bytes _ (none-given bytes _ (c .before .before .before .before .before .before .before .before .own-answer .ensures) (sym (c .before .before .before .before .before .before .before .is-refusal .ensures) ∙ c .before .before .before .before .before .before .if1 .left)) (c .before .before .before .before .load .ensures) _ (c .before .before .references .ensures) (sym (c .before .is-refusal2 .ensures) ∙ c .if2 .left)
+    let bytes = c .before .before .before .before .before .before .before .before .before .before .before .before .args .table .now in
+    accepted-left bytes _ (none-given bytes _ (c .before .before .before .before .before .before .before .before .own-answer .ensures) (sym (c .before .before .before .before .before .before .before .is-refusal .ensures) ∙ c .before .before .before .before .before .before .if1 .left)) (c .before .before .before .before .load .ensures) _ (c .before .before .references .ensures)
+    (sym (c .before .is-refusal2 .ensures) ∙ c .if2 .left)
 
 pub read-spec : {M : Type 1} → statement M
 read-spec =
