@@ -124,64 +124,79 @@ module _ (bytes : List ℕ) (sound : Sound bytes) where
   unfolding networkIn
   network-read = network-same (unpacked bytes) held
 
--- ---- the steps of filling: the sheet holds the blocks up to a section's place, and zeros
-pub head-put : (s t head bytes : List ℕ) → s ≡ replicate (place 6) 0 → head ≡ block (unpacked bytes) 0 → t ≡ head ++ drop (length head) s
-    → t ≡ lent (place 6) (blocks (unpacked bytes) 1)
+-- ---- the steps of filling: the sheet holds the blocks before a section's, and zeros
+pub record Filled (bytes counts : List ℕ) (k : ℕ) (sheet : List ℕ) : Type 0 where
+  pub accepts : tableAnswer bytes .number ≡ 0
+  pub counted : counts ≡ tabulate (rows bytes) 6
+  pub holds : sheet ≡ lent (place 6) (blocks (unpacked bytes) (suc k))
+
+pub head-put : (bytes counts s t head : List ℕ) → tableAnswer bytes .number ≡ 0 → counts ≡ tabulate (rows bytes) 6 → s ≡ replicate (place 6) 0
+    → head ≡ block (unpacked bytes) 0 → t ≡ head ++ drop (length head) s → Filled bytes counts 0 t
 unfolding blocks lent
-head-put s t head bytes zeros is e =
-    e ∙ ap (λ (r : List ℕ). head ++ r) (ap (drop (length head)) zeros ∙ drop-zeros (length head) (place 6)) ∙ ap (lent (place 6)) is
+head-put bytes counts s t head given is zeros front e = record {
+  accepts = given;
+  counted = is;
+  holds = e ∙ ap (λ (r : List ℕ). head ++ r) (ap (drop (length head)) zeros ∙ drop-zeros (length head) (place 6)) ∙ ap (lent (place 6)) front;
+}
 
 -- a section's records, from its place on
-module _ (bytes : List ℕ) (accepts : tableAnswer bytes .number ≡ 0) (k a n m : ℕ) (h : suc k < 6) (at : place (suc k) ≡ a) (of-n : n ≡ rows bytes (suc k))
-    (of-m : listed (suc k) ≡ m) (s : List ℕ) (so-far : s ≡ lent (place 6) (blocks (unpacked bytes) (suc k))) where
-  front : List ℕ
+module _ {bytes counts s : List ℕ} {k : ℕ} (before : Filled bytes counts k s) (h : suc k < 6) {a m : ℕ} (at : place (suc k) ≡ a) (of-m : listed (suc k) ≡ m) where
+  abbrev front : List ℕ
   front = blocks (unpacked bytes) (suc k)
 
-  xs : List ℕ
+  abbrev xs : List ℕ
   xs = records bytes (suc k) (rows bytes (suc k))
 
+  abbrev size : ℕ
+  size = getD counts (suc k) 0 * m
+
   sound : Sound bytes
-  sound = own-sound bytes accepts
+  sound = own-sound bytes (before .accepts)
 
   long : length front ≡ a
-  unfolding front
   long = length-blocks (unpacked bytes) (held bytes sound) (suc k) (omega arith) ∙ at
 
-  size : length xs ≡ n * m
-  unfolding xs
-  size = length-records bytes (suc k) (rows bytes (suc k)) ∙ ap₂ (λ (i j : ℕ). i * j) (sym of-n) of-m
+  size-is : rows bytes (suc k) * listed (suc k) ≡ size
+  size-is = ap₂ (λ (i j : ℕ). i * j) (sym (count-at bytes counts (before .counted) (suc k) h)) of-m
+
+  sized : length xs ≡ size
+  sized = length-records bytes (suc k) (rows bytes (suc k)) ∙ size-is
 
   fits : (length xs ≤ capacity (suc k)) × (a + capacity (suc k) ≤ place 6)
-  unfolding capacity place xs
+  unfolding capacity place
   fits =
       (omega (arith, length-records bytes (suc k) (rows bytes (suc k)), mul-le-mul-right (listed (suc k)) (few bytes (sound .header) k h)), omega (arith, place-le (suc (suc k)) 6 h))
 
-  pub section-room : a + n * m ≤ length s
-  unfolding front
-  section-room = omega (arith, fits, size, long, ap length so-far, length-lent (place 6) front (omega (arith, fits, long)))
+  pub section-room : a + size ≤ length s
+  section-room = omega (arith, fits, sized, ap length (before .holds), length-lent (place 6) front (omega (arith, fits, long)))
 
-  pub section-put : (t : List ℕ) → t ≡ take a s ++ (lent (n * m) (records bytes (suc k) (fitting bytes (suc k) (n * m))) ++ drop (a + n * m) s)
-      → t ≡ lent (place 6) (blocks (unpacked bytes) (suc (suc k)))
-  unfolding blocks block lent front xs
+  pub section-put : (t : List ℕ) → t ≡ take a s ++ (lent size (records bytes (suc k) (fitting bytes (suc k) size)) ++ drop (a + size) s) → Filled bytes counts (suc k) t
+  unfolding blocks block lent
   section-put t e =
       let zeros = replicate {A = ℕ} (place 6 - length front) 0 in
-      let room : rows bytes (suc k) * listed (suc k) ≤ n * m = rw (of-n, of-m) (omega arith) in
-      let part : lent (n * m) (records bytes (suc k) (fitting bytes (suc k) (n * m))) ≡ xs =
-      ap (λ (i : ℕ). lent (n * m) (records bytes (suc k) i)) (all-fit bytes sound k (n * m) h room) ∙ lent-whole (n * m) xs (omega (arith, size)) in
-      let rest : drop (a + n * m) s ≡ replicate (place 6 - length front - length xs) 0 =
-      ap₂ (λ (i : ℕ) (l : List ℕ). drop (i + n * m) l) (sym long) so-far
-      ∙ drop-append-add front zeros (n * m)
-      ∙ drop-zeros (n * m) (place 6 - length front)
-      ∙ ap (λ (i : ℕ). replicate (place 6 - length front - i) 0) (sym size) in
-      let kept : take a s ≡ front = ap (take a) so-far ∙ take-at front zeros a long in
-      e
-      ∙ (λ i. kept i ++ (part i ++ rest i))
-      ∙ lent-behind (place 6) (capacity (suc k)) front xs (fits .0) (omega (arith, fits, long))
-      ∙ ap (λ (r : List ℕ). lent (place 6) (front ++ lent (capacity (suc k)) r)) (sym (list-is bytes (suc k) h))
+      let part : lent size (records bytes (suc k) (fitting bytes (suc k) size)) ≡ xs =
+      ap (λ (i : ℕ). lent size (records bytes (suc k) i)) (all-fit bytes sound k size h (omega (arith, size-is))) ∙ lent-whole size xs (omega (arith, sized)) in
+      let rest : drop (a + size) s ≡ replicate (place 6 - length front - length xs) 0 =
+      ap₂ (λ (i : ℕ) (l : List ℕ). drop (i + size) l) (sym long) (before .holds)
+      ∙ drop-append-add front zeros size
+      ∙ drop-zeros size (place 6 - length front)
+      ∙ ap (λ (i : ℕ). replicate (place 6 - length front - i) 0) (sym sized) in
+      let kept : take a s ≡ front = ap (take a) (before .holds) ∙ take-at front zeros a long in
+      record {
+        accepts = before .accepts;
+        counted = before .counted;
+        holds =
+            e
+            ∙ (λ i. kept i ++ (part i ++ rest i))
+            ∙ lent-behind (place 6) (capacity (suc k)) front xs (fits .0) (omega (arith, fits, long))
+            ∙ ap (λ (r : List ℕ). lent (place 6) (front ++ lent (capacity (suc k)) r)) (sym (list-is bytes (suc k) h));
+      }
 
-pub all-put : (bytes t : List ℕ) → tableAnswer bytes .number ≡ 0 → t ≡ lent (place 6) (blocks (unpacked bytes) 6) → t ≡ sheetOf (unpacked bytes)
+pub all-put : {bytes counts t : List ℕ} → Filled bytes counts 5 t → t ≡ sheetOf (unpacked bytes)
 unfolding sheetOf
-all-put bytes t accepts e = e ∙ lent-whole (place 6) (blocks (unpacked bytes) 6) (omega (arith, length-blocks (unpacked bytes) (held bytes (own-sound bytes accepts)) 6 (omega arith)))
+all-put {bytes} done =
+    done .holds
+    ∙ lent-whole (place 6) (blocks (unpacked bytes) 6) (omega (arith, length-blocks (unpacked bytes) (held bytes (own-sound bytes (done .accepts))) 6 (omega arith)))
 
 -- ---- the answer and the sheet that is left
 some-number : (n : ℕ) → ltb 0 n ≡ true → 0 < n
