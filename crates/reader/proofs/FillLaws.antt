@@ -1,12 +1,12 @@
 -- The sheet is filled from the front: behind the header's numbers and the counts, each section's records and zeros up to its capacity. So it is the sheet of the table's lists, and the network on it is the table's.
 -- Assumes nothing.
 use Prim.Native.Nat.{ℕ, zero, suc, _+_, _-_, _*_, _/_, _%_, _≤_, _<_}
-use mathlib.Core.Bool.{true, false, true≢false, false≢true}
+use mathlib.Core.Bool.{true, false}
 use mathlib.Core.List.{List, [], _∷_, _++_, append-assoc}
 use mathlib.Core.Path.{_≡_, refl, sym, ap, ap₂, _∙_}
 use native.Mathlib.Nat.{le-div-iff-mul-le, mul-le-mul-right}
 use native.Mathlib.Omega.{arith}
-use borrow.Author.Tests.{lt-ltb, eq-eqb, ne-eqb}
+use borrow.Author.Tests.{ltb-true, ltb-false, eq-eqb, ne-eqb}
 use lib.Dec.{ltb}
 use lib.ListN.{length, getD, take, drop, replicate, length-append, replicate-append-replicate}
 use lib.Seq.{getD-take, getD-drop, take-at, drop-append-add}
@@ -199,13 +199,8 @@ all-put {bytes} done =
     ∙ lent-whole (place 6) (blocks (unpacked bytes) 6) (omega (arith, length-blocks (unpacked bytes) (held bytes (own-sound bytes (done .accepts))) 6 (omega arith)))
 
 -- ---- the answer and the sheet that is left
-some-number : (n : ℕ) → ltb 0 n ≡ true → 0 < n
-some-number zero e = absurd (false≢true e)
-some-number (suc n) e = omega arith
-
 no-number : (n : ℕ) → ltb 0 n ≡ false → n ≡ 0
-no-number zero e = refl
-no-number (suc n) e = absurd (true≢false (sym (lt-ltb 0 (suc n) (omega arith)) ∙ e))
+no-number n e = omega (arith, ltb-false 0 n e)
 
 pub zeros-left : (bytes out : List ℕ) → 0 < readAnswer bytes .number → out ≡ replicate (place 6) 0 → out ≡ readSheet bytes
 unfolding readSheet
@@ -215,7 +210,7 @@ pub refused-read : (bytes out : List ℕ) (a : Answer) → a ≡ tableAnswer byt
     → (a ≡ readAnswer bytes) × (out ≡ readSheet bytes)
 unfolding tableAnswer
 refused-read bytes out a e t zeros =
-    let more = some-number (a .number) t in
+    let more = ltb-true 0 (a .number) t in
     let is = e ∙ own-refused bytes (rw e at more) in
     (is, zeros-left bytes out (rw is at more) zeros)
 
@@ -238,7 +233,7 @@ module _ (bytes sheet : List ℕ) (accepts : tableAnswer bytes .number ≡ 0) (f
   refused-left out b e t zeros =
       let is = answer-is b e in
       let long = ap length filled ∙ length-blocks (unpacked bytes) (held bytes (own-sound bytes accepts)) 6 (omega arith) in
-      (is, zeros-left bytes out (rw is at (some-number (b .number) t)) (zeros ∙ ap (λ (n : ℕ). replicate n 0) long))
+      (is, zeros-left bytes out (rw is at (ltb-true 0 (b .number) t)) (zeros ∙ ap (λ (n : ℕ). replicate n 0) long))
 
   pub accepted-left : (b : Answer) → b ≡ firstGiven (answer5 (networkOn sheet) ∷ answer6 (networkOn sheet) ∷ []) → ltb 0 (b .number) ≡ false
       → (b ≡ readAnswer bytes) × (sheet ≡ readSheet bytes)
