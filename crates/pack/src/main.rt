@@ -1,6 +1,5 @@
 // Reads a table's text from standard input and writes the packed table to standard output.
-// What a text means, `parser` says, and what its bytes are, `writer`. On anything wrong nothing is written there, and one sentence on
-// standard error says what.
+// What table a text makes, `texts` says. On anything wrong nothing is written there, and one sentence on standard error says what.
 mod mistakes;
 mod names;
 mod refusals;
@@ -10,9 +9,10 @@ use crate::refusals::put_refusal;
 use layout::sizes;
 ghost use Prim.Native.Nat.{_≤_};
 use console::Input;
-use parser::Fault;
 use parser::Mistake;
 use table::Answer;
+use table::Written;
+use texts::Packed;
 
 // The longest text, and one byte more, so that a longer one is seen to be too long.
 const MOST_TEXT: usize = 262_144;
@@ -47,83 +47,25 @@ fn say_refusal(given: &[u8], answer: Answer) {
     say(&line, used);
 }
 
-// Writes the table of the lists, or says which line they can't be written for.
-fn write_table(
-    given: &[u8],
-    header: &[u64],
-    systems: &[u64],
-    vls: &[u64],
-    streams: &[u64],
-    ports: &[u64],
-    hops: &[u64],
-) {
-    let mut table = [0u8; sizes::TABLE];
-    let w = writer::write(header, systems, vls, streams, ports, hops, &mut table);
+// Writes a table out, or says which line it can't be written for.
+fn hand_out(given: &[u8], table: &[u8], w: Written) {
     let answer = w.answer;
     let number = answer.number;
     if number != 0 {
         say_refusal(given, answer);
         return;
     }
-    if !console::write_first(&table, w.length) {
+    if !console::write_first(table, w.length) {
         console::give_up(b"pack: the table could not be written whole\n");
     }
 }
 
-// The same of lists that have so many numbers at their start.
-fn write_lists(
-    given: &[u8],
-    header: &[u64],
-    systems: &[u64],
-    vls: &[u64],
-    streams: &[u64],
-    ports: &[u64],
-    hops: &[u64],
-    lengths: [usize; 6],
-) {
-    write_table(
-        given,
-        header,
-        &systems[0..least(lengths[1], systems.len())],
-        &vls[0..least(lengths[2], vls.len())],
-        &streams[0..least(lengths[3], streams.len())],
-        &ports[0..least(lengths[4], ports.len())],
-        &hops[0..least(lengths[5], hops.len())],
-    );
-}
-
 // Packs a text, or says what is wrong with it.
 fn pack(given: &[u8]) {
-    let mut header = [0u64; sizes::HEADER_LIST];
-    let mut systems = [0u64; sizes::SYSTEMS];
-    let mut vls = [0u64; sizes::VLS];
-    let mut streams = [0u64; sizes::STREAMS];
-    let mut ports = [0u64; sizes::PORTS];
-    let mut hops = [0u64; sizes::HOPS];
-    let p = parser::read(
-        given,
-        &mut header,
-        &mut systems,
-        &mut vls,
-        &mut streams,
-        &mut ports,
-        &mut hops,
-    );
-    let mistake = p.mistake;
-    let fault = mistake.fault;
-    let lengths = p.lengths;
-    match fault {
-        Fault::Nothing => write_lists(
-            given,
-            &header,
-            &systems,
-            &vls,
-            &streams,
-            &ports,
-            &hops,
-            lengths,
-        ),
-        _ => say_mistake(given, mistake),
+    let mut table = [0u8; sizes::TABLE];
+    match texts::pack(given, &mut table) {
+        Packed::Mistaken(mistake) => say_mistake(given, mistake),
+        Packed::Answered(w) => hand_out(given, &table, w),
     }
 }
 

@@ -1,0 +1,86 @@
+-- A table goes to text and back through `pack`: its lists have room in those that are lent, the text printed for them has no mistake and says
+-- them, and the writer gives the table's bytes.
+-- Assumes nothing.
+use Prim.Native.Nat.{ℕ, suc, _*_, _≤_, _<_}
+use mathlib.Core.Path.{_≡_, sym, ap, subst, _∙_}
+use mathlib.Core.Bool.{true, false, true≢false}
+use mathlib.Core.List.{List}
+use mathlib.Core.Option.{none}
+use native.Mathlib.Omega.{arith}
+use native.Mathlib.Nat.{mul-le-mul-right}
+use lib.Dec.{eqb}
+use lib.ListN.{length, getD}
+use Rattle.base.specs.Pick.{pick}
+use Rattle.bits.specs.Bits.{Bytes}
+use Rattle.layout.specs.declared.Way.the-variants.{Reading}
+use Rattle.layout.specs.Limits.{most, mostIn}
+use Rattle.layout.specs.Layout.{layoutIn, header, endSystem, vl, stream, port, hop}
+use Rattle.layout.specs.Fields.{isPadding}
+use Rattle.layout.specs.Rows.{listed, listedIn, rowFault}
+use Rattle.table.specs.declared.Answer.{Answer}
+use Rattle.table.specs.declared.Written.{Written}
+use Rattle.table.specs.Answers.{accepted}
+use Rattle.table.specs.Sections.{headerRow, rows, records, lent}
+use Rattle.table.specs.Lists.{Lists, listFor, unpacked}
+use Rattle.table.specs.Unpack.{Lengths, unpackAnswer}
+use Rattle.table.specs.Write.{tableSize, writes, Writes}
+use Rattle.table.proofs.AnswerLaws.{unpack-was}
+use Rattle.table.proofs.SectionLaws.{length-records}
+use Rattle.table.proofs.UnpackLaws.{length-header, size-unpacked}
+use Rattle.table.proofs.ReadingLaws.{few}
+use Rattle.table.proofs.RoundTrip.{write-after-unpack}
+use Rattle.notation.proofs.ShapeLaws.{by-section}
+use Rattle.parser.specs.Mistakes.{isFault}
+use Rattle.parser.specs.Tables.{firstMistake}
+use Rattle.texts.specs.declared.Packed.the-variants.{Mistaken, Answered}
+use Rattle.texts.specs.Texts.{listsBy, textFor, LongEnough}
+use Rattle.texts.specs.Packing.{rooms, PacksTo, Packs-again}
+use Rattle.texts.proofs.SaidLaws.{said-back}
+use Rattle.texts.proofs.ReadLaws.{printed-is-read}
+
+module _ (bytes : List ℕ) (ok : rowFault Reading 0 (headerRow bytes) ≡ none) where
+  few-numbers : (s : ℕ) → suc s < 6 → length (records bytes (suc s) (rows bytes (suc s))) ≤ most (suc s) * listed (suc s)
+  few-numbers s h = rw (length-records bytes (suc s) (rows bytes (suc s))) (mul-le-mul-right (listed (suc s)) (few bytes ok s h))
+
+  long-enough : LongEnough (unpacked bytes) rooms
+  unfolding LongEnough listsBy listFor unpacked mostIn listed listedIn isPadding layoutIn header endSystem vl stream port hop
+  long-enough = by-section
+      (λ s. s ≤ 5 → length (listsBy (unpacked bytes) s) ≤ getD rooms s 0)
+      (λ h. omega (arith, length-header bytes))
+      (λ h. few-numbers 0 (omega arith))
+      (λ h. few-numbers 1 (omega arith))
+      (λ h. few-numbers 2 (omega arith))
+      (λ h. few-numbers 3 (omega arith))
+      (λ h. few-numbers 4 (omega arith))
+      (λ h. absurd (omega arith))
+      (λ s h. absurd (omega arith))
+
+module _ (bytes : List ℕ) (n : Lengths) (b : Bytes bytes) (e : unpackAnswer bytes n ≡ accepted) (room : ℕ) (long : length bytes ≤ room) where
+  no-fault : isFault (firstMistake (textFor (unpacked bytes)) rooms .fault) ≡ false
+  unfolding isFault
+  no-fault =
+      ap isFault (printed-is-read (unpacked bytes) room (write-after-unpack bytes n b e room long .0) rooms
+      (long-enough bytes (unpack-was bytes n e .header)))
+
+  is-written : writes (unpacked bytes) room ≡ true
+  unfolding writes
+  is-written = ap (λ (a : Answer). eqb (a .number) 0) (write-after-unpack bytes n b e room long .0)
+
+  same-bytes : (w : Written) (after : List ℕ) → Writes (unpacked bytes) room w after
+      → (Answered w ≡ Answered (record { answer = accepted; length = length bytes })) × (after ≡ lent room bytes)
+  same-bytes w after h =
+      let again = write-after-unpack bytes n b e room long in
+      let size : pick (writes (unpacked bytes) room) (tableSize (unpacked bytes)) 0 ≡ length bytes =
+      rw is-written (size-unpacked bytes (unpack-was bytes n e)) in (
+        λ i. Answered (record { answer = (h .answer ∙ again .0) i; length = (h .length-is ∙ size) i }),
+        h .out-left ∙ rw (is-written, again .1),
+      )
+
+pub packs-again : Packs-again
+unfolding PacksTo
+packs-again bytes n b e before long (Mistaken m) after p =
+    absurd (true≢false (sym (p .0) ∙ no-fault bytes n b e (length before) long))
+packs-again bytes n b e before long (Answered w) after p =
+    let back = said-back (unpacked bytes) (length before) (write-after-unpack bytes n b e (length before) long .0) in
+    same-bytes bytes n b e (length before) long w after
+    (subst (λ (ls : Lists). Writes ls (length before) w after) back (p .1))

@@ -1,0 +1,57 @@
+-- `texts::pack` meets its contract: what is read without a mistake are the lists that the text says, each as far as its length goes.
+-- Assumes nothing.
+use borrow.Author.Needs.{needs}
+use types.Run.{miss}
+use Prim.Native.Nat.{ℕ}
+use mathlib.Core.Path.{refl}
+use mathlib.Core.List.{List, [], _∷_}
+use Rattle.texts.specs.Packing.{rooms, PacksTo}
+use Rattle.texts.proofs.PackLaws.{no-mistake, a-mistake, lists-within, said-written}
+use Rattle.texts.proofs.pack.Statement.{statement}
+use Rattle.texts.proofs.pack.Tie as tie
+
+write-first-requires : tie.Need-write-first-requires
+write-first-requires c κs =
+    let read = c .before .before .before .before .before .before .before .before .before .before .before .before .before .before .before .before .before .read .ensures in
+    let told = c .before .before .before .before .before .before .before .enum-told .given .1 in
+    lists-within _ rooms _ _ _ _ _ _ _ read (no-mistake _ rooms _ _ _ _ _ _ _ read told)
+
+returns : tie.Need-returns
+unfolding PacksTo
+returns c =
+    let read = c .before .before .before .before .before .before .before .before .before .before .before .before .before .before .before .before .before .before .before .before .read .ensures in
+    let good = no-mistake _ rooms _ _ _ _ _ _ _ read (c .before .before .before .before .before .before .before .before .before .before .enum-told .given .1) in
+    (good, said-written _ rooms _ _ _ _ _ _ _ read good _ _ _ (c .before .before .write-first .ensures))
+
+-- the tags of the faults
+others : List ℕ
+others = 1 ∷ 2 ∷ 3 ∷ 4 ∷ 5 ∷ []
+
+returns-2 : tie.Need-returns-2
+unfolding PacksTo others
+returns-2 c =
+    let read = c .before .before .before .before .before .before .before .before .before .read .ensures in
+    (a-mistake _ rooms _ _ _ _ _ _ _ read (λ e. miss others 0 tt (rw e at (c .match .keys2))), read .mistake, refl)
+
+pub pack-spec : {M : Type 1} → statement M
+pack-spec =
+    tie.close
+    (tie.spec
+    (λ c. search needs)
+    (λ c. search needs)
+    (λ c. search needs)
+    (λ c. search needs)
+    (λ c. search needs)
+    (λ c. search needs)
+    (λ c κs. search needs)
+    (λ c. search needs)
+    (λ c. search needs)
+    (λ c. search needs)
+    (λ c. search needs)
+    (λ c. search needs)
+    (λ c. search needs)
+    (λ c. search needs)
+    write-first-requires
+    (λ c. search needs)
+    returns
+    returns-2)
