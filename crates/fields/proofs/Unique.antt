@@ -21,7 +21,8 @@ pub keyword-settles : Settles 1 keyword-kinds.ps keyword-kinds.r keyword-reads.P
 keyword-settles κs a x y ws vs p q = (told-settles x y (p ∙ sym q), refl)
 
 -- a number, and the words behind those that say it, which tell the place
-takes-settles : (text : List ℕ) (at end : ℕ) (says : Option meant.Taken) (x y : Taken) → Takes text at end says x → Takes text at end says y → x ≡ y
+takes-settles : (text : List ℕ) (at end : ℕ) (says : Option meant.Taken) (x y : Taken)
+    → Takes text at end says x → Takes text at end says y → x ≡ y
 unfolding takenIn taken BehindTaken wordsFrom
 takes-settles text at end says (Said v n) (Said w m) p q =
     let same = Option·some-injective _ _ (p .said ∙ sym (q .said)) in

@@ -1,5 +1,5 @@
--- A table goes to text and back through `pack`: its lists have room in those that are lent, the text printed for them has no mistake and says
--- them, and the writer gives the table's bytes.
+-- A table goes to text and back through `pack`: its lists have room in those that are lent, the text printed for them has no mistake and
+-- says them, and the writer gives the table's bytes.
 -- Assumes nothing.
 use Prim.Native.Nat.{ℕ, suc, _*_, _≤_, _<_}
 use mathlib.Core.Path.{_≡_, sym, ap, subst, _∙_}
@@ -55,7 +55,8 @@ module _ (bytes : List ℕ) (ok : rowFault Reading 0 (headerRow bytes) ≡ none)
       (λ h. absurd (omega arith))
       (λ s h. absurd (omega arith))
 
-module _ (bytes : List ℕ) (n : Lengths) (b : Bytes bytes) (e : unpackAnswer bytes n ≡ accepted) (room : ℕ) (long : length bytes ≤ room) where
+module _ (bytes : List ℕ) (n : Lengths) (b : Bytes bytes) (e : unpackAnswer bytes n ≡ accepted) (room : ℕ)
+    (long : length bytes ≤ room) where
   no-fault : isFault (firstMistake (textFor (unpacked bytes)) rooms .fault) ≡ false
   unfolding isFault
   no-fault =

@@ -15,7 +15,8 @@ use Rattle.fields.proofs.keyword_of.Tie as tie
 abbrev Inv-loop : tie.InvT-loop
 Inv-loop text span section₀ section =
     (section ≤ 7)
-    × (wordIn keywords (part text (span .from) (span .to)) ≡ behind section (wordIn (drop section keywords) (part text (span .from) (span .to))))
+    × (wordIn keywords (part text (span .from) (span .to))
+    ≡ behind section (wordIn (drop section keywords) (part text (span .from) (span .to))))
 
 abbrev μ-loop : tie.MeasureT-loop
 μ-loop text span section₀ section = 7 - section

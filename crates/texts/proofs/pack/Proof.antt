@@ -12,15 +12,17 @@ use Rattle.texts.proofs.pack.Tie as tie
 
 write-first-requires : tie.Need-write-first-requires
 write-first-requires c κs =
-    let read = c .before .before .before .before .before .before .before .before .before .before .before .before .before .before .before .before .before .read .ensures in
-    let told = c .before .before .before .before .before .before .before .enum-told .given .1 in
+    let matched = c .before .before .before .before .before .before .before in
+    let read = matched .before .before .before .before .before .before .before .before .before .before .read .ensures in
+    let told = matched .enum-told .given .1 in
     lists-within _ rooms _ _ _ _ _ _ _ read (no-mistake _ rooms _ _ _ _ _ _ _ read told)
 
 returns : tie.Need-returns
 unfolding PacksTo
 returns c =
-    let read = c .before .before .before .before .before .before .before .before .before .before .before .before .before .before .before .before .before .before .before .before .read .ensures in
-    let good = no-mistake _ rooms _ _ _ _ _ _ _ read (c .before .before .before .before .before .before .before .before .before .before .enum-told .given .1) in
+    let matched = c .before .before .before .before .before .before .before .before .before .before in
+    let read = matched .before .before .before .before .before .before .before .before .before .before .read .ensures in
+    let good = no-mistake _ rooms _ _ _ _ _ _ _ read (matched .enum-told .given .1) in
     (good, said-written _ rooms _ _ _ _ _ _ _ read good _ _ _ (c .before .before .write-first .ensures))
 
 -- the tags of the faults
