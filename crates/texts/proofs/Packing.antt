@@ -13,39 +13,37 @@ use lib.ListN.{length, getD}
 use Rattle.base.specs.Pick.{pick}
 use Rattle.bits.specs.Bits.{Bytes}
 use Rattle.layout.specs.declared.Way.the-variants.{Reading}
-use Rattle.layout.specs.Limits.{most, mostIn}
-use Rattle.layout.specs.Layout.{layoutIn, header, endSystem, vl, stream, port, hop}
-use Rattle.layout.specs.Fields.{isPadding}
-use Rattle.layout.specs.Rows.{listed, listedIn, rowFault}
+use Rattle.layout.specs.Rows.{listed, rowFault}
+use Rattle.layout.specs.Sizes.{capacity}
 use Rattle.table.specs.declared.Answer.{Answer}
 use Rattle.table.specs.declared.Written.{Written}
 use Rattle.table.specs.Answers.{accepted}
-use Rattle.table.specs.Sections.{headerRow, rows, records, lent}
+use Rattle.table.specs.Sections.{headerRow, lent}
 use Rattle.table.specs.Lists.{Lists, listFor, unpacked}
-use Rattle.table.specs.Unpack.{Lengths, unpackAnswer}
+use Rattle.table.specs.Unpack.{unpackAnswer}
 use Rattle.table.specs.Write.{tableSize, writes, Writes}
 use Rattle.table.proofs.AnswerLaws.{unpack-was}
-use Rattle.table.proofs.SectionLaws.{length-records}
-use Rattle.table.proofs.UnpackLaws.{length-header, size-unpacked}
+use Rattle.table.proofs.UnpackLaws.{length-list, length-header, size-unpacked}
 use Rattle.table.proofs.ReadingLaws.{few}
 use Rattle.table.proofs.RoundTrip.{write-after-unpack}
 use Rattle.notation.proofs.ShapeLaws.{by-section}
 use Rattle.parser.specs.Mistakes.{isFault}
 use Rattle.parser.specs.Tables.{firstMistake}
 use Rattle.texts.specs.declared.Packed.the-variants.{Mistaken, Answered}
-use Rattle.texts.specs.Texts.{listsBy, textFor, LongEnough}
+use Rattle.texts.specs.Texts.{textFor, LongEnough}
 use Rattle.texts.specs.Packing.{rooms, PacksTo, Packs-again}
 use Rattle.texts.proofs.SaidLaws.{said-back}
 use Rattle.texts.proofs.ReadLaws.{printed-is-read}
 
 module _ (bytes : List ℕ) (ok : rowFault Reading 0 (headerRow bytes) ≡ none) where
-  few-numbers : (s : ℕ) → suc s < 6 → length (records bytes (suc s) (rows bytes (suc s))) ≤ most (suc s) * listed (suc s)
-  few-numbers s h = rw (length-records bytes (suc s) (rows bytes (suc s))) (mul-le-mul-right (listed (suc s)) (few bytes ok s h))
+  few-numbers : (s : ℕ) → suc s < 6 → length (listFor (unpacked bytes) (suc s)) ≤ capacity (suc s)
+  unfolding capacity
+  few-numbers s h = rw (length-list bytes s h) (mul-le-mul-right (listed (suc s)) (few bytes ok s h))
 
   long-enough : LongEnough (unpacked bytes) rooms
-  unfolding LongEnough listsBy listFor unpacked mostIn listed listedIn isPadding layoutIn header endSystem vl stream port hop
+  unfolding LongEnough listFor unpacked
   long-enough = by-section
-      (λ s. s ≤ 5 → length (listsBy (unpacked bytes) s) ≤ getD rooms s 0)
+      (λ s. s ≤ 5 → length (listFor (unpacked bytes) s) ≤ getD rooms s 0)
       (λ h. omega (arith, length-header bytes))
       (λ h. few-numbers 0 (omega arith))
       (λ h. few-numbers 1 (omega arith))
@@ -55,7 +53,7 @@ module _ (bytes : List ℕ) (ok : rowFault Reading 0 (headerRow bytes) ≡ none)
       (λ h. absurd (omega arith))
       (λ s h. absurd (omega arith))
 
-module _ (bytes : List ℕ) (n : Lengths) (b : Bytes bytes) (e : unpackAnswer bytes n ≡ accepted) (room : ℕ)
+module _ (bytes : List ℕ) (n : Lists) (b : Bytes bytes) (e : unpackAnswer bytes n ≡ accepted) (room : ℕ)
     (long : length bytes ≤ room) where
   no-fault : isFault (firstMistake (textFor (unpacked bytes)) rooms .fault) ≡ false
   unfolding isFault

@@ -3,13 +3,15 @@
 use Prim.Native.Nat.{ℕ, _≤_}
 use mathlib.Core.Path.{_≡_}
 use mathlib.Core.Bool.{true, false}
-use mathlib.Core.List.{List, [], _∷_}
-use lib.ListN.{length}
+use mathlib.Core.List.{List, [], _∷_, map}
+use lib.ListN.{length, replicate}
 use Rattle.bits.specs.Bits.{Bytes}
+use Rattle.layout.specs.Layout.{headerNames}
+use Rattle.layout.specs.Sizes.{capacity}
 use Rattle.table.specs.Answers.{accepted}
 use Rattle.table.specs.Sections.{lent}
-use Rattle.table.specs.Lists.{unpacked}
-use Rattle.table.specs.Unpack.{Lengths, unpackAnswer}
+use Rattle.table.specs.Lists.{Lists, unpacked}
+use Rattle.table.specs.Unpack.{unpackAnswer}
 use Rattle.table.specs.Write.{Writes}
 use Rattle.parser.specs.Mistakes.{isFault}
 use Rattle.parser.specs.Tables.{firstMistake}
@@ -19,12 +21,12 @@ use Rattle.texts.specs.Texts.{said, textFor}
 
 -- the room of the lists that a text is read to: the version and the delays, and the most records of each section
 abbrev pub rooms : List ℕ
-rooms = 5 ∷ 64 ∷ 1024 ∷ 3584 ∷ 384 ∷ 3072 ∷ []
+rooms = length headerNames ∷ map capacity (1 ∷ 2 ∷ 3 ∷ 4 ∷ 5 ∷ [])
 
--- on a mistake the bytes are as they were
+-- on a mistake every lent byte is 0
 unfoldable pub PacksTo : List ℕ → List ℕ → Packed → List ℕ → Type 0
 PacksTo text before (Mistaken m) after =
-    (isFault (firstMistake text rooms .fault) ≡ true) × (m ≡ firstMistake text rooms) × (after ≡ before)
+    (isFault (firstMistake text rooms .fault) ≡ true) × (m ≡ firstMistake text rooms) × (after ≡ replicate (length before) 0)
 PacksTo text before (Answered w) after =
     (isFault (firstMistake text rooms .fault) ≡ false) × Writes (said text) (length before) w after
 
@@ -32,6 +34,6 @@ PacksTo text before (Answered w) after =
 -- `PacksTo` and is lent enough of them.
 abbrev pub Packs-again : Type 0
 Packs-again =
-    (bytes : List ℕ) (n : Lengths) → Bytes bytes → unpackAnswer bytes n ≡ accepted → (before : List ℕ) → length bytes ≤ length before
+    (bytes : List ℕ) (lists : Lists) → Bytes bytes → unpackAnswer bytes lists ≡ accepted → (before : List ℕ) → length bytes ≤ length before
     → (r : Packed) (after : List ℕ) → PacksTo (textFor (unpacked bytes)) before r after
     → (r ≡ Answered (record { answer = accepted; length = length bytes })) × (after ≡ lent (length before) bytes)

@@ -49,7 +49,7 @@ fn write_first(
     )
 }
 
-// Packs a text to a table's bytes. On a mistake they are as they were; otherwise they are as the writer leaves them.
+// Packs a text to a table's bytes. On a mistake every lent byte is 0; otherwise they are as the writer leaves them.
 pub fn pack(text: &[u8], out: &mut [u8]) -> Packed
     ensures { λ r. ⌜ PacksTo (now (text .entry)) (now (out .entry)) r (now (out .exit)) ⌝ }
 {
@@ -82,6 +82,9 @@ pub fn pack(text: &[u8], out: &mut [u8]) -> Packed
             lengths,
             out,
         )),
-        _ => Packed::Mistaken(mistake),
+        _ => {
+            writer::clear(out);
+            Packed::Mistaken(mistake)
+        }
     }
 }

@@ -22,7 +22,7 @@ ghost use Rattle.table.specs.Write.{headerFor, packed, Writes};
 ghost use Rattle.writer.specs.Writing.{lists, countIn, listStored, HasRecord, HasRoom, Behind, listEnd, withList, earlyEnd, earlyPut, lateEnd, latePut, Fillable};
 
 // Makes every byte 0.
-fn clear(out: &mut [u8])
+pub fn clear(out: &mut [u8])
     ensures { λ _. ⌜ now (out .exit) ≡ replicate (length (now (out .entry))) 0 ⌝ }
 {
     let n = out.len();

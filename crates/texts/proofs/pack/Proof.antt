@@ -3,14 +3,19 @@
 use borrow.Author.Needs.{needs}
 use types.Run.{miss}
 use Prim.Native.Nat.{ℕ}
-use mathlib.Core.Path.{refl}
 use mathlib.Core.List.{List, [], _∷_}
+use Rattle.layout.specs.Limits.{mostIn}
+use Rattle.layout.specs.Layout.{layoutIn, kindsOf, kindOf}
+use Rattle.layout.specs.Fields.{isPadding}
+use Rattle.layout.specs.Rows.{listed, listedIn}
+use Rattle.layout.specs.Sizes.{capacity}
 use Rattle.texts.specs.Packing.{rooms, PacksTo}
 use Rattle.texts.proofs.PackLaws.{no-mistake, a-mistake, lists-within, said-written}
 use Rattle.texts.proofs.pack.Statement.{statement}
 use Rattle.texts.proofs.pack.Tie as tie
 
 write-first-requires : tie.Need-write-first-requires
+unfolding capacity mostIn listed listedIn isPadding kindOf kindsOf layoutIn
 write-first-requires c κs =
     let matched = c .before .before .before .before .before .before .before in
     let read = matched .before .before .before .before .before .before .before .before .before .before .read .ensures in
@@ -18,7 +23,7 @@ write-first-requires c κs =
     lists-within _ rooms _ _ _ _ _ _ _ read (no-mistake _ rooms _ _ _ _ _ _ _ read told)
 
 returns : tie.Need-returns
-unfolding PacksTo
+unfolding PacksTo capacity mostIn listed listedIn isPadding kindOf kindsOf layoutIn
 returns c =
     let matched = c .before .before .before .before .before .before .before .before .before .before in
     let read = matched .before .before .before .before .before .before .before .before .before .before .read .ensures in
@@ -30,10 +35,11 @@ others : List ℕ
 others = 1 ∷ 2 ∷ 3 ∷ 4 ∷ 5 ∷ []
 
 returns-2 : tie.Need-returns-2
-unfolding PacksTo others
+unfolding PacksTo others capacity mostIn listed listedIn isPadding kindOf kindsOf layoutIn
 returns-2 c =
-    let read = c .before .before .before .before .before .before .before .before .before .read .ensures in
-    (a-mistake _ rooms _ _ _ _ _ _ _ read (λ e. miss others 0 tt (rw e at (c .match .keys2))), read .mistake, refl)
+    let matched = c .before .before .before .before in
+    let read = matched .before .before .before .before .before .before .before .before .before .read .ensures in
+    (a-mistake _ rooms _ _ _ _ _ _ _ read (λ e. miss others 0 tt (rw e at (matched .match .keys2))), read .mistake, c .before .before .clear .ensures)
 
 pub pack-spec : {M : Type 1} → statement M
 pack-spec =
@@ -54,6 +60,8 @@ pack-spec =
     (λ c. search needs)
     (λ c. search needs)
     write-first-requires
+    (λ c κs. search needs)
     (λ c. search needs)
     returns
+    (λ c. search needs)
     returns-2)
