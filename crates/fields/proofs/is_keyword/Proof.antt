@@ -36,10 +36,7 @@ pub is-keyword-spec : {M : Type 1} → statement M
 is-keyword-spec =
     tie.close
     (tie.spec
-    (λ c. search needs)
-    (λ c κs. search needs)
-    (λ c. search needs)
-    (λ c. search needs)
+    (λ c. search needs) (λ c κs. search needs) (λ c. search needs) (λ c. search needs)
     part-is-word-end
     (λ c κs. search needs)
     returns)

@@ -25,13 +25,7 @@ pub put-parent-spec : {M : Type 1} → statement M
 put-parent-spec =
     tie.close
     (tie.spec
-    (λ c. search needs)
-    (λ c κs. search needs)
-    (λ c. search needs)
+    (λ c. search needs) (λ c κs. search needs) (λ c. search needs)
     returns
-    (λ c. search needs)
-    (λ c κs. search needs)
-    (λ c. search needs)
-    (λ c κs. search needs)
-    (λ c. search needs)
+    (λ c. search needs) (λ c κs. search needs) (λ c. search needs) (λ c κs. search needs) (λ c. search needs)
     returns-2)

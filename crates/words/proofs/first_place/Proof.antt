@@ -43,10 +43,8 @@ first-place-spec =
     μ-loop
     (λ c κs. search needs)
     (λ c. refl)
-    (λ c. search needs)
-    (λ c κs. search needs)
+    (λ c. search needs) (λ c κs. search needs)
     returns
-    (λ c. search needs)
-    (λ c. search needs)
+    (λ c. search needs) (λ c. search needs)
     loop-again
     returns-2)

@@ -63,11 +63,8 @@ numeral-of-spec =
     μ-loop
     returns
     (λ c. (refl, refl, omega arith))
-    (λ c. search needs)
-    (λ c κs. search needs)
+    (λ c. search needs) (λ c κs. search needs)
     returns-2
-    (λ c κs. search needs)
-    (λ c. search needs)
-    (λ c. search needs)
+    (λ c κs. search needs) (λ c. search needs) (λ c. search needs)
     loop-again
     returns-3)

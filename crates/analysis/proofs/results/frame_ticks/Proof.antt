@@ -48,9 +48,7 @@ pub frame-ticks-spec : {M : Type 1} → statement M
 frame-ticks-spec =
     tie.close
     (tie.spec
-    (λ c κs. search needs)
-    (λ c κs. search needs)
-    (λ c κs. search needs)
+    (λ c κs. search needs) (λ c κs. search needs) (λ c κs. search needs)
     mul-t6
     mul-t7
     returns)

@@ -46,9 +46,7 @@ pub gaps-of-spec : {M : Type 1} → statement M
 gaps-of-spec =
     tie.close
     (tie.spec
-    (λ c κs. search needs)
-    (λ c κs. search needs)
-    (λ c κs. search needs)
+    (λ c κs. search needs) (λ c κs. search needs) (λ c κs. search needs)
     (λ c. few c .1)
     (λ c. omega (arith, most (c .before)))
     returns)

@@ -79,19 +79,15 @@ route-ticks-spec =
     Inv-loop
     μ-loop
     loop-holds
-    (λ c κs. search needs)
-    (λ c κs. search needs)
-    (λ c. search needs)
+    (λ c κs. search needs) (λ c κs. search needs) (λ c. search needs)
     element-copy-out-most
     add-most
     add-most-2
     mul-least
     add-least
     add-least-2
-    (λ c. search needs)
-    (λ c. search needs)
+    (λ c. search needs) (λ c. search needs)
     returns
-    (λ c. search needs)
-    (λ c. search needs)
+    (λ c. search needs) (λ c. search needs)
     loop-again
     returns-2)

@@ -102,8 +102,7 @@ pub row-of-spec : {M : Type 1} → statement M
 row-of-spec =
     tie.close
     (tie.spec
-    (λ c κs. search needs)
-    (λ c κs. search needs)
+    (λ c κs. search needs) (λ c κs. search needs)
     queue-of-requires
     frame-ticks-requires
     route-ticks-requires

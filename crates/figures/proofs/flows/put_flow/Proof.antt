@@ -16,16 +16,9 @@ pub put-flow-spec : {M : Type 1} → statement M
 put-flow-spec =
     tie.close
     (tie.spec
-    (λ c. search needs)
-    (λ c. search needs)
-    (λ c. search needs)
-    (λ c. search needs)
-    (λ c. search needs)
-    (λ c. search needs)
+    (λ c. search needs) (λ c. search needs) (λ c. search needs) (λ c. search needs) (λ c. search needs) (λ c. search needs)
     (λ c. simp length-set (omega (arith, c .pre)))
-    (λ c. search needs)
-    (λ c. search needs)
-    (λ c. search needs)
+    (λ c. search needs) (λ c. search needs) (λ c. search needs)
     (λ c. simp length-set (omega (arith, c .pre)))
     (λ c. search needs)
     (λ c. length-with-flow (c .args .flows .now) (c .args .i) (c .args .f))

@@ -15,8 +15,6 @@ pub packets-spec : {M : Type 1} → statement M
 packets-spec =
     tie.close
     (tie.spec
-    (λ c κs. search needs)
-    (λ c. search needs)
-    (λ c. search needs)
+    (λ c κs. search needs) (λ c. search needs) (λ c. search needs)
     returns
     returns-2)

@@ -55,9 +55,6 @@ mux-waits-spec =
     loop-holds
     (λ c κs. search needs)
     sum-without-requires
-    (λ c. search needs)
-    (λ c. search needs)
-    (λ c. search needs)
-    (λ c. search needs)
+    (λ c. search needs) (λ c. search needs) (λ c. search needs) (λ c. search needs)
     loop-again
     returns)

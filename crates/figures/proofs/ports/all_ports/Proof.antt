@@ -65,7 +65,6 @@ all-ports-spec =
     served-requires
     returns
     put-figure-requires
-    (λ c. search needs)
-    (λ c. search needs)
+    (λ c. search needs) (λ c. search needs)
     loop-again
     returns-2)

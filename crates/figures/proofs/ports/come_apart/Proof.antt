@@ -105,10 +105,7 @@ pub come-apart-spec : {M : Type 1} → statement M
 come-apart-spec =
     tie.close
     (tie.spec
-    (λ c. search needs)
-    (λ c. search needs)
-    (λ c κs. search needs)
-    (λ c κs. search needs)
+    (λ c. search needs) (λ c. search needs) (λ c κs. search needs) (λ c κs. search needs)
     mul-result
     element-copy-out-result
     (λ c κs. on-link (c .before))
@@ -116,8 +113,7 @@ come-apart-spec =
     (λ c. sent c .0)
     add-result
     returns
-    (λ c κs. search needs)
-    (λ c κs. search needs)
+    (λ c κs. search needs) (λ c κs. search needs)
     (λ c. omega (arith, above (c .before .before), c .before .before .before .before .before .pre .known .good .ranges .few-hops))
     (λ c. omega (arith, above (c .before .before), c .before .before .before .before .before .pre .known .good .ranges .few-hops))
     (λ c. omega (

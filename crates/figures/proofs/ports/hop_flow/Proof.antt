@@ -28,8 +28,7 @@ pub hop-flow-spec : {M : Type 1} → statement M
 hop-flow-spec =
     tie.close
     (tie.spec
-    (λ c κs. search needs)
-    (λ c κs. search needs)
+    (λ c κs. search needs) (λ c κs. search needs)
     spread-requires
     (λ c. search needs)
     frame-most-requires

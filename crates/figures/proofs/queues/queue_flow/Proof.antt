@@ -40,9 +40,7 @@ pub queue-flow-spec : {M : Type 1} → statement M
 queue-flow-spec =
     tie.close
     (tie.spec
-    (λ c. search needs)
-    (λ c. search needs)
-    (λ c κs. search needs)
+    (λ c. search needs) (λ c. search needs) (λ c κs. search needs)
     mul-t8
     mul-t9
     returns)

@@ -10,9 +10,6 @@ unfolding convert
 convert-field-spec =
     tie.close
     (tie.spec
-    (λ c. search needs)
-    (λ c κs. search needs)
-    (λ c. search needs)
-    (λ c κs. search needs)
+    (λ c. search needs) (λ c κs. search needs) (λ c. search needs) (λ c κs. search needs)
     (λ c. rw (c .before .enum-told .given .1) (c .meaning-of .ensures))
     (λ c. rw (c .before .enum-told2 .given .1) (c .stored-as .ensures)))

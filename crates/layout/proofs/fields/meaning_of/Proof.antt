@@ -16,16 +16,8 @@ unfolding meaning said ruled
 meaning-of-spec =
     tie.close
     (tie.spec
-    (λ c. search needs)
-    (λ c κs. search needs)
-    (λ c. search needs)
-    (λ c. search needs)
-    (λ c κs. search needs)
-    (λ c. search needs)
-    (λ c κs. search needs)
-    (λ c. search needs)
-    (λ c. search needs)
-    (λ c. search needs)
+    (λ c. search needs) (λ c κs. search needs) (λ c. search needs) (λ c. search needs) (λ c κs. search needs) (λ c. search needs)
+    (λ c κs. search needs) (λ c. search needs) (λ c. search needs) (λ c. search needs)
     (λ c. rw (c .before .before .kind .given .1) (c .between .ensures))
     (λ c. rw (c .enum-told .given .1) refl)
     (λ c. rw (c .before .enum-told2 .given .1) (c .between2 .ensures ∙ ap ruled (padding-is (c .before .before .before .args .n))))

@@ -19,17 +19,13 @@ unfolding faultOf orderFault orderTests firstFailing leastFrom orders layoutIn i
 order-fault-spec =
     tie.close
     (tie.spec
-    (λ c. search needs)
-    (λ c. search needs)
+    (λ c. search needs) (λ c. search needs)
     (λ c. rw (c .before .match .keys1, lt-leb _ _ (c .if1 .taken)) refl)
-    (λ c. search needs)
-    (λ c. search needs)
+    (λ c. search needs) (λ c. search needs)
     (λ c. rw (c .before .before .match .keys1, le-leb _ _ (c .before .if1 .left), lt-leb _ _ (c .if2 .taken)) refl)
-    (λ c. search needs)
-    (λ c. search needs)
+    (λ c. search needs) (λ c. search needs)
     (λ c. rw (c .before .match .keys2, lt-leb _ _ (c .if3 .taken)) refl)
-    (λ c. search needs)
-    (λ c. search needs)
+    (λ c. search needs) (λ c. search needs)
     (λ c. rw (c .before .match .keys3, lt-leb _ _ (c .if4 .taken)) refl)
     (λ c. rw (c .before .before .match .keys1, le-leb _ _ (c .before .if1 .left), le-leb _ _ (c .if2 .left)) refl)
     (λ c. rw (c .before .match .keys2, le-leb _ _ (c .if3 .left)) refl)

@@ -68,7 +68,6 @@ converted-row-spec =
     (λ c κs. search needs)
     mul-out
     array-write-out
-    (λ c. search needs)
-    (λ c. search needs)
+    (λ c. search needs) (λ c. search needs)
     loop-again
     returns)

@@ -67,8 +67,7 @@ fault-of-spec =
     convert-field-requires
     (λ c κs. search needs)
     returns
-    (λ c. search needs)
-    (λ c. search needs)
+    (λ c. search needs) (λ c. search needs)
     loop-again
     (λ c κs. search needs)
     returns-2)

@@ -10,11 +10,7 @@ unfolding countedBy
 counted-spec =
     tie.close
     (tie.spec
-    (λ c. search needs)
-    (λ c. search needs)
-    (λ c. search needs)
-    (λ c κs. search needs)
-    (λ c. search needs)
+    (λ c. search needs) (λ c. search needs) (λ c. search needs) (λ c κs. search needs) (λ c. search needs)
     (λ c. rw (c .enum-told .given .1, countedBy))
     (λ c. rw (c .enum-told2 .given .1, countedBy))
     (λ c. rw (c .before .enum-told3 .given .1, countedBy) (c .one-more .ensures))

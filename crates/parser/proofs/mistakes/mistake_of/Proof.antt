@@ -88,9 +88,7 @@ mistake-of-spec =
     Inv-loop
     μ-loop
     loop-holds
-    (λ c κs. search needs)
-    (λ c κs. search needs)
-    (λ c. search needs)
+    (λ c κs. search needs) (λ c κs. search needs) (λ c. search needs)
     mistake-at-requires
     (λ c κs. search needs)
     returns
@@ -98,8 +96,7 @@ mistake-of-spec =
     (λ c. omega (arith, ends c))
     (λ c. omega (arith, ends c))
     loop-again
-    (λ c. search needs)
-    (λ c κs. search needs)
+    (λ c. search needs) (λ c κs. search needs)
     returns-2
     (λ c κs. search needs)
     returns-3)

@@ -42,11 +42,8 @@ not-too-deep-spec =
     Inv-loop
     μ-loop
     loop-holds
-    (λ c κs. search needs)
-    (λ c. search needs)
-    (λ c. search needs)
+    (λ c κs. search needs) (λ c. search needs) (λ c. search needs)
     returns
-    (λ c. search needs)
-    (λ c. search needs)
+    (λ c. search needs) (λ c. search needs)
     loop-again
     returns-2)

@@ -54,9 +54,7 @@ pub parent-fault-spec : {M : Type 1} → statement M
 parent-fault-spec =
     tie.close
     (tie.spec
-    (λ c κs. search needs)
-    (λ c. search needs)
-    (λ c. search needs)
+    (λ c κs. search needs) (λ c. search needs) (λ c. search needs)
     returns
     returns-2
     (λ c κs. search needs)

@@ -40,8 +40,7 @@ pub row-answer-spec : {M : Type 1} → statement M
 row-answer-spec =
     tie.close
     (tie.spec
-    (λ c κs. search needs)
-    (λ c κs. search needs)
+    (λ c κs. search needs) (λ c κs. search needs)
     hop-answer-requires
     returns
     returns-2

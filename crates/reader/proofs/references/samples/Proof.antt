@@ -48,8 +48,7 @@ samples-spec =
     one-sample-requires
     (λ c κs. search needs)
     returns
-    (λ c. search needs)
-    (λ c. search needs)
+    (λ c. search needs) (λ c. search needs)
     loop-again
     (λ c κs. search needs)
     returns-2)

@@ -51,8 +51,7 @@ section-answer-spec =
     row-answer-requires
     (λ c κs. search needs)
     returns
-    (λ c. search needs)
-    (λ c. search needs)
+    (λ c. search needs) (λ c. search needs)
     loop-again
     (λ c κs. search needs)
     returns-2)

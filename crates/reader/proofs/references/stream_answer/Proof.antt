@@ -39,12 +39,9 @@ pub stream-answer-spec : {M : Type 1} → statement M
 stream-answer-spec =
     tie.close
     (tie.spec
-    (λ c κs. search needs)
-    (λ c κs. search needs)
-    (λ c κs. search needs)
+    (λ c κs. search needs) (λ c κs. search needs) (λ c κs. search needs)
     returns
-    (λ c κs. search needs)
-    (λ c κs. search needs)
+    (λ c κs. search needs) (λ c κs. search needs)
     returns-2
     (λ c κs. search needs)
     returns-3)

@@ -16,9 +16,7 @@ pub chained-spec : {M : Type 1} → statement M
 chained-spec =
     tie.close
     (tie.spec
-    (λ c κs. search needs)
-    (λ c. search needs)
+    (λ c κs. search needs) (λ c. search needs)
     array-share-prefix-hops
     slice-aggregate-routed
-    (λ c κs. search needs)
-    (λ c. search needs))
+    (λ c κs. search needs) (λ c. search needs))

@@ -57,8 +57,7 @@ answer-in-spec =
     loop-holds
     answer-at-requires
     returns
-    (λ c. search needs)
-    (λ c. search needs)
+    (λ c. search needs) (λ c. search needs)
     loop-again
     (λ c κs. search needs)
     returns-2)

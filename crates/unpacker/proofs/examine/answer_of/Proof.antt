@@ -31,9 +31,6 @@ answer-of-spec =
     tie.close
     (tie.spec
     returns
-    (λ c κs. search needs)
-    (λ c. search needs)
-    (λ c. search needs)
-    (λ c κs. search needs)
+    (λ c κs. search needs) (λ c. search needs) (λ c. search needs) (λ c κs. search needs)
     returns-2
     returns-3)

@@ -61,8 +61,7 @@ fill-spec =
     (λ c κs. search needs)
     loop-holds
     add-record-requires
-    (λ c. search needs)
-    (λ c. search needs)
+    (λ c. search needs) (λ c. search needs)
     loop-again
     same-length
     returns)

@@ -44,11 +44,9 @@ pub fill-header-spec : {M : Type 1} → statement M
 fill-header-spec =
     tie.close
     (tie.spec
-    (λ c κs. search needs)
-    (λ c. search needs)
+    (λ c κs. search needs) (λ c. search needs)
     returns
-    (λ c κs. search needs)
-    (λ c κs. search needs)
+    (λ c κs. search needs) (λ c κs. search needs)
     put-numbers-requires
     (λ c. search needs)
     returns-2)

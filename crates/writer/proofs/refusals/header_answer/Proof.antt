@@ -40,7 +40,6 @@ header-answer-spec =
     (tie.spec
     (λ c κs. search needs)
     header-row-requires
-    (λ c κs. search needs)
-    (λ c κs. search needs)
+    (λ c κs. search needs) (λ c κs. search needs)
     returns
     returns-2)

@@ -52,8 +52,7 @@ list-answer-spec =
     loop-holds
     record-answer-requires
     returns
-    (λ c. search needs)
-    (λ c. search needs)
+    (λ c. search needs) (λ c. search needs)
     loop-again
     (λ c κs. search needs)
     returns-2)

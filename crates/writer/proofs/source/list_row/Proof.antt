@@ -88,7 +88,6 @@ list-row-spec =
     shared-slice-read-row
     mul-row-2
     array-write-row
-    (λ c. search needs)
-    (λ c. search needs)
+    (λ c. search needs) (λ c. search needs)
     loop-again
     returns)

@@ -40,9 +40,7 @@ pub table-bytes-spec : {M : Type 1} → statement M
 table-bytes-spec =
     tie.close
     (tie.spec
-    (λ c κs. search needs)
-    (λ c κs. search needs)
-    (λ c κs. search needs)
+    (λ c κs. search needs) (λ c κs. search needs) (λ c κs. search needs)
     add-result
     (λ c κs. search needs)
     add-result-2
