@@ -1,22 +1,25 @@
 -- A text that is read to six lists: without a mistake each list has room for all that its section says.
 -- Assumes nothing.
-use Prim.Native.Nat.{ℕ, zero, suc, _+_, _-_, _*_, _/_, _≤_, _<_}
+use Prim.Native.Nat.{ℕ, suc, _-_, _*_, _/_, _≤_}
 use mathlib.Core.Path.{_≡_, refl, sym, ap, _∙_}
 use mathlib.Core.Bool.{Bool, true, false, not}
-use mathlib.Core.List.{List, [], _∷_, _++_}
+use mathlib.Core.List.{List, [], _∷_}
 use native.Mathlib.Omega.{arith}
-use borrow.Author.Tests.{le-leb, leb-true, leb-false}
+use borrow.Author.Tests.{le-leb, leb-true}
 use lib.Dec.{leb}
-use lib.ListN.{length, getD, replicate, drop, length-replicate}
+use lib.ListN.{length, getD, replicate, length-replicate}
 use lib.Seq.{take-all}
 use Rattle.base.specs.Pick.{pick}
+use Rattle.table.specs.Sections.{lent}
+use Rattle.table.specs.Lists.{Lists}
+use Rattle.table.proofs.LentLaws.{lent-none}
 use Rattle.notation.specs.Meant.{textLines, versionIn, sectionIn, listIn}
 use Rattle.notation.specs.Steps.{fieldsOf}
 use Rattle.notation.specs.Fitted.{held, fitted}
 use Rattle.parser.specs.declared.mistakes.Mistake.{Mistake}
 use Rattle.parser.specs.Lines.{listWith, placeWith, headRow}
 use Rattle.parser.specs.Mistakes.{isFault, mistakeIn}
-use Rattle.parser.specs.Tables.{mostFor, firstMistake, padded, readList, readLength}
+use Rattle.parser.specs.Tables.{mostFor, roomIn, firstMistake, readList}
 use Rattle.parser.proofs.FillLaws.{drop-zeros}
 use Rattle.parser.proofs.TallyLaws.{sections-fit, delays-said}
 
@@ -24,8 +27,8 @@ held-all : (n room : ℕ) (ns : List ℕ) → length ns ≤ room / n * n → hel
 unfolding held
 held-all n room ns h = take-all (room / n * n) ns h
 
-fitted-all : (n room : ℕ) (ns : List ℕ) → length ns ≤ room / n * n → fitted n room ns ≡ padded room ns
-unfolding fitted padded
+fitted-all : (n room : ℕ) (ns : List ℕ) → length ns ≤ room / n * n → fitted n room ns ≡ lent room ns
+unfolding fitted lent
 fitted-all n room ns h = rw (held-all n room ns h)
 
 -- the version and four delays
@@ -34,8 +37,8 @@ unfolding placeWith
 head-place room h = rw (le-leb 5 (length {A = ℕ} (replicate room 0) - 0) (omega (arith, length-replicate {A = ℕ} room 0)))
 
 head-list : (room v : ℕ) (ns : List ℕ) → length ns ≡ 4 → 5 ≤ room
-    → listWith (replicate room 0) 0 (headRow v (fitted (fieldsOf 0) 4 ns)) 5 ≡ padded room (v ∷ ns)
-unfolding listWith headRow fitted held fieldsOf padded
+    → listWith (replicate room 0) 0 (headRow v (fitted (fieldsOf 0) 4 ns)) 5 ≡ lent room (v ∷ ns)
+unfolding listWith headRow fitted held fieldsOf lent
 head-list room v [] e h = absurd (omega arith)
 head-list room v (a ∷ []) e h = absurd (omega arith)
 head-list room v (a ∷ b ∷ []) e h = absurd (omega arith)
@@ -45,92 +48,76 @@ head-list room v (a ∷ b ∷ c ∷ d ∷ []) e h =
     (ap (λ (l : List ℕ). v ∷ a ∷ b ∷ c ∷ d ∷ l) (drop-zeros 5 room))
 head-list room v (a ∷ b ∷ c ∷ d ∷ x ∷ ns) e h = absurd (omega arith)
 
-pub seven : (rooms : List ℕ) → length (mostFor rooms) ≡ 7
+pub seven : (room : ℕ → ℕ) → length (mostFor room) ≡ 7
 unfolding mostFor
-seven rooms = refl
+seven room = refl
 
 -- one line of delays at least and at most
-delays-fit : (rooms : List ℕ) (k : ℕ) → 4 ≤ k → k ≤ getD (mostFor rooms) 0 0 * fieldsOf 0 → (5 ≤ getD rooms 0 0) × (k ≡ 4)
+delays-fit : (room : ℕ → ℕ) (k : ℕ) → 4 ≤ k → k ≤ getD (mostFor room) 0 0 * fieldsOf 0 → (5 ≤ room 0) × (k ≡ 4)
 unfolding mostFor fieldsOf
-delays-fit rooms k h j = go (leb 5 (getD rooms 0 0)) (leb-true _ _) j
+delays-fit room k h j = go (leb 5 (room 0)) (leb-true _ _) j
   where
-    go : (t : Bool) → (t ≡ true → 5 ≤ getD rooms 0 0) → k ≤ pick t 1 0 * 4 → (5 ≤ getD rooms 0 0) × (k ≡ 4)
+    go : (t : Bool) → (t ≡ true → 5 ≤ room 0) → k ≤ pick t 1 0 * 4 → (5 ≤ room 0) × (k ≡ 4)
     go true f j = (f refl, omega arith)
     go false f j = absurd (omega arith)
 
-module _ (text rooms : List ℕ) (version : ℕ) (good : Bool) (m : Mistake) (v : version ≡ versionIn (textLines text))
-    (e : m ≡ mistakeIn text version (mostFor rooms)) (g : good ≡ not (isFault (m .fault))) where
-  pub is-first : m ≡ firstMistake text rooms
+-- nothing where the test finds a mistake, and otherwise all
+all-or-none : (t : Bool) (n room : ℕ) (list ns : List ℕ) → (t ≡ false → (n ≡ length ns) × (list ≡ lent room ns))
+    → (pick (not t) n 0 ≡ length (pick t [] ns)) × (pick (not t) list (replicate room 0) ≡ lent room (pick t [] ns))
+all-or-none true n room list ns h = (refl, sym (lent-none room))
+all-or-none false n room list ns h = h refl
+
+module _ (text : List ℕ) (before : Lists) (version : ℕ) (good : Bool) (m : Mistake) (v : version ≡ versionIn (textLines text))
+    (e : m ≡ mistakeIn text version (mostFor (roomIn before))) (g : good ≡ not (isFault (m .fault))) where
+  pub is-first : m ≡ firstMistake text before
   unfolding firstMistake
-  is-first = e ∙ ap (λ (x : ℕ). mistakeIn text x (mostFor rooms)) v
+  is-first = e ∙ ap (λ (x : ℕ). mistakeIn text x (mostFor (roomIn before))) v
 
-  good-is : (t : Bool) → isFault (firstMistake text rooms .fault) ≡ t → good ≡ not t
-  good-is t f = g ∙ ap (λ (x : Mistake). not (isFault (x .fault))) is-first ∙ ap not f
+  abbrev said : ℕ → List ℕ
+  said s = sectionIn version s (textLines text)
 
-  none-found : isFault (firstMistake text rooms .fault) ≡ false → isFault (mistakeIn text version (mostFor rooms) .fault) ≡ false
-  none-found f = ap (λ (x : Mistake). isFault (x .fault)) (sym e ∙ is-first) ∙ f
+  abbrev found : Bool
+  found = isFault (mistakeIn text version (mostFor (roomIn before)) .fault)
 
-  pub section-read : (s room len : ℕ) (l : List ℕ) → room ≡ getD rooms (suc s) 0 → getD (mostFor rooms) (suc s) 0 ≡ room / fieldsOf (suc s)
-      → len ≡ pick good (length (held (fieldsOf (suc s)) room (sectionIn version (suc s) (textLines text)))) 0
-      → l ≡ pick good (fitted (fieldsOf (suc s)) room (sectionIn version (suc s) (textLines text))) (replicate room 0)
-      → (len ≡ readLength text rooms (suc s)) × (l ≡ readList text rooms (suc s))
-  unfolding readLength readList listIn
-  section-read s room len l r q a b = go (isFault (firstMistake text rooms .fault)) refl
-    where
-      n : ℕ
-      n = fieldsOf (suc s)
+  -- what is put in a list where there is no mistake, and zeros where there is one
+  put : (s n len : ℕ) (list l ns : List ℕ) → ns ≡ listIn text s
+      → (found ≡ false → (n ≡ length ns) × (list ≡ lent (roomIn before s) ns))
+      → len ≡ pick good n 0 → l ≡ pick good list (replicate (roomIn before s) 0)
+      → (len ≡ length (readList text before s)) × (l ≡ lent (roomIn before s) (readList text before s))
+  unfolding readList
+  put s n len list l ns same h a b =
+      let is : isFault (firstMistake text before .fault) ≡ found = ap (λ (x : Mistake). isFault (x .fault)) (sym is-first ∙ e) in
+      let is-good : good ≡ not found = g ∙ ap (λ (x : Mistake). not (isFault (x .fault))) e in
+      let both = all-or-none found n (roomIn before s) list ns h in
+      rw (is, ← same) (
+        a ∙ ap (λ (t : Bool). pick t n 0) is-good ∙ both .0,
+        b ∙ ap (λ (t : Bool). pick t list (replicate (roomIn before s) 0)) is-good ∙ both .1,
+      )
 
-      ns : List ℕ
-      ns = sectionIn version (suc s) (textLines text)
+  pub section-read : (s len : ℕ) (l : List ℕ) → getD (mostFor (roomIn before)) (suc s) 0 ≡ roomIn before (suc s) / fieldsOf (suc s)
+      → (len ≡ pick good (length (held (fieldsOf (suc s)) (roomIn before (suc s)) (said (suc s)))) 0)
+      × (l ≡ pick good (fitted (fieldsOf (suc s)) (roomIn before (suc s)) (said (suc s))) (replicate (roomIn before (suc s)) 0))
+      → (len ≡ length (readList text before (suc s))) × (l ≡ lent (roomIn before (suc s)) (readList text before (suc s)))
+  unfolding listIn
+  section-read s len l q a =
+      let n = fieldsOf (suc s) in
+      let room = roomIn before (suc s) in
+      put (suc s) _ len _ l (said (suc s)) (ap (λ (x : ℕ). sectionIn x (suc s) (textLines text)) v)
+      (λ f.
+      let fits : length (said (suc s)) ≤ room / n * n = rw (← q) (sections-fit text version _ (suc s) (seven (roomIn before)) f) in
+      (ap length (held-all n room (said (suc s)) fits), fitted-all n room (said (suc s)) fits))
+      (a .0) (a .1)
 
-      same : ns ≡ sectionIn (versionIn (textLines text)) (suc s) (textLines text)
-      same = ap (λ (x : ℕ). sectionIn x (suc s) (textLines text)) v
-
-      go : (t : Bool) → isFault (firstMistake text rooms .fault) ≡ t
-          → (len ≡ pick (isFault (firstMistake text rooms .fault)) 0 (length (sectionIn (versionIn (textLines text)) (suc s) (textLines text))))
-          × (l ≡ pick (isFault (firstMistake text rooms .fault)) (replicate (getD rooms (suc s) 0) 0)
-          (padded (getD rooms (suc s) 0) (sectionIn (versionIn (textLines text)) (suc s) (textLines text))))
-      go true f =
-          rw (f, ← r) (
-            a ∙ ap (λ (x : Bool). pick x (length (held n room ns)) 0) (good-is true f),
-            b ∙ ap (λ (x : Bool). pick x (fitted n room ns) (replicate room 0)) (good-is true f),
-          )
-      go false f =
-          let fits : length ns ≤ room / n * n = rw (← q) (sections-fit text version (mostFor rooms) (suc s) (seven rooms) (none-found f)) in
-          rw (f, ← r, ← same) (
-            a ∙ ap (λ (x : Bool). pick x (length (held n room ns)) 0) (good-is false f) ∙ ap length (held-all n room ns fits),
-            b ∙ ap (λ (x : Bool). pick x (fitted n room ns) (replicate room 0)) (good-is false f) ∙ fitted-all n room ns fits,
-          )
-
-  pub header-read : (room len : ℕ) (l : List ℕ) → room ≡ getD rooms 0 0
-      → len ≡ pick good (placeWith (replicate room 0) 0 5) 0
-      → l ≡ pick good (listWith (replicate room 0) 0 (headRow version (fitted (fieldsOf 0) 4 (sectionIn version 0 (textLines text)))) 5) (replicate room 0)
-      → (len ≡ readLength text rooms 0) × (l ≡ readList text rooms 0)
-  unfolding readLength readList listIn
-  header-read room len l r a b = go (isFault (firstMistake text rooms .fault)) refl
-    where
-      ns : List ℕ
-      ns = sectionIn version 0 (textLines text)
-
-      same : version ∷ ns ≡ versionIn (textLines text) ∷ sectionIn (versionIn (textLines text)) 0 (textLines text)
-      same = ap (λ (x : ℕ). x ∷ sectionIn x 0 (textLines text)) v
-
-      go : (t : Bool) → isFault (firstMistake text rooms .fault) ≡ t
-          → (len ≡ pick (isFault (firstMistake text rooms .fault)) 0 (length (versionIn (textLines text) ∷ sectionIn (versionIn (textLines text)) 0 (textLines text))))
-          × (l ≡ pick (isFault (firstMistake text rooms .fault)) (replicate (getD rooms 0 0) 0)
-          (padded (getD rooms 0 0) (versionIn (textLines text) ∷ sectionIn (versionIn (textLines text)) 0 (textLines text))))
-      go true f =
-          rw (f, ← r) (
-            a ∙ ap (λ (x : Bool). pick x (placeWith (replicate room 0) 0 5) 0) (good-is true f),
-            b ∙ ap (λ (x : Bool). pick x (listWith (replicate room 0) 0 (headRow version (fitted (fieldsOf 0) 4 ns)) 5) (replicate room 0)) (good-is true f),
-          )
-      go false f =
-          let some-are = delays-said text version (mostFor rooms) (seven rooms) (none-found f) in
-          let few-are = sections-fit text version (mostFor rooms) 0 (seven rooms) (none-found f) in
-          let k = delays-fit rooms (length ns) some-are few-are in
-          let wide : 5 ≤ room = omega (arith, k .0, r) in
-          rw (f, ← r) (
-            a ∙ ap (λ (x : Bool). pick x (placeWith (replicate room 0) 0 5) 0) (good-is false f) ∙ head-place room wide ∙ sym (ap suc (k .1)) ∙ ap length same,
-            b ∙ ap (λ (x : Bool). pick x (listWith (replicate room 0) 0 (headRow version (fitted (fieldsOf 0) 4 ns)) 5) (replicate room 0)) (good-is false f)
-                ∙ head-list room version ns (k .1) wide ∙ ap (padded room) same,
-          )
+  pub header-read : (len : ℕ) (l : List ℕ)
+      → (len ≡ pick good (placeWith (replicate (roomIn before 0) 0) 0 5) 0)
+      × (l ≡ pick good (listWith (replicate (roomIn before 0) 0) 0 (headRow version (fitted (fieldsOf 0) 4 (said 0))) 5)
+      (replicate (roomIn before 0) 0))
+      → (len ≡ length (readList text before 0)) × (l ≡ lent (roomIn before 0) (readList text before 0))
+  unfolding listIn
+  header-read len l a =
+      put 0 _ len _ l (version ∷ said 0) (ap (λ (x : ℕ). x ∷ sectionIn x 0 (textLines text)) v)
+      (λ f.
+      let k = delays-fit (roomIn before) (length (said 0)) (delays-said text version _ (seven (roomIn before)) f)
+      (sections-fit text version _ 0 (seven (roomIn before)) f) in
+      (head-place (roomIn before 0) (k .0) ∙ sym (ap suc (k .1)), head-list (roomIn before 0) version (said 0) (k .1) (k .0)))
+      (a .0) (a .1)

@@ -1,6 +1,6 @@
 -- Each public contract settles its answer, and what stands in a lent list: two results that both satisfy it are equal.
 -- Assumes nothing.
-use mathlib.Core.Path.{_≡_, refl, sym, _∙_}
+use mathlib.Core.Path.{refl, sym, _∙_}
 use Rattle.base.specs.Settles.{Settles}
 use Rattle.parser.proofs.filling.fill.Kinds as fill-kinds
 use Rattle.parser.proofs.filling.fill.Reads as fill-reads
@@ -21,19 +21,8 @@ pub mistake : Settles 1 mistake-kinds.ps mistake-kinds.r mistake-reads.Post
 mistake κs a x y ws vs p q = (p ∙ sym q, refl)
 
 pub read : Settles 7 read-kinds.ps read-kinds.r read-reads.Post
-read κs a x y ws vs p q = (
-  λ i. record { mistake = (p .mistake ∙ sym (q .mistake)) i; lengths = (p .lengths ∙ sym (q .lengths)) i },
-  λ i. (
-    tt,
-    (
-      (p .header-is ∙ sym (q .header-is)) i,
-      (
-        (p .systems-are ∙ sym (q .systems-are)) i,
-        (
-          (p .vls-are ∙ sym (q .vls-are)) i,
-          ((p .streams-are ∙ sym (q .streams-are)) i, ((p .ports-are ∙ sym (q .ports-are)) i, ((p .hops-are ∙ sym (q .hops-are)) i, tt))),
-        ),
-      ),
-    ),
-  ),
-)
+read κs a x y ws vs p q =
+    let left = p .held ∙ sym (q .held) in (
+      λ i. record { mistake = (p .mistake ∙ sym (q .mistake)) i; lengths = (p .lengths ∙ sym (q .lengths)) i },
+      λ i. (tt, (left i .header, (left i .systems, (left i .vls, (left i .streams, (left i .ports, (left i .hops, tt))))))),
+    )

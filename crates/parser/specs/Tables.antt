@@ -1,12 +1,14 @@
--- A text that is read to six lent lists: what stands in each.
+-- A text that is read to six lent lists: its first mistake, and what stands in each list.
 -- Assumes nothing.
-use Prim.Native.Nat.{ℕ, zero, suc, _-_, _/_}
+use Prim.Native.Nat.{ℕ, _/_}
 use mathlib.Core.Path.{_≡_}
-use mathlib.Core.List.{List, [], _∷_, _++_}
+use mathlib.Core.List.{List, [], _∷_, _++_, map}
 use lib.Dec.{leb}
-use lib.ListN.{length, getD, replicate}
+use lib.ListN.{length}
 use Rattle.base.specs.Pick.{pick}
 use Rattle.base.specs.Tabulate.{tabulate}
+use Rattle.table.specs.Sections.{lent}
+use Rattle.table.specs.Lists.{Lists, listsBy, listFor}
 use Rattle.notation.specs.Meant.{textLines, versionIn, listIn}
 use Rattle.notation.specs.Steps.{fieldsOf}
 use Rattle.parser.specs.declared.mistakes.Mistake.{Mistake}
@@ -15,39 +17,23 @@ use Rattle.parser.specs.Mistakes.{isFault, mistakeIn}
 
 -- how many lines each section may have by the room of its list: whole records; one of delays, where the version and they have room; and one
 -- of the version
-unfoldable pub mostFor : List ℕ → List ℕ
-mostFor rooms =
-    pick (leb 5 (getD rooms 0 0)) 1 0
-    ∷ (getD rooms 1 0 / fieldsOf 1)
-    ∷ (getD rooms 2 0 / fieldsOf 2)
-    ∷ (getD rooms 3 0 / fieldsOf 3)
-    ∷ (getD rooms 4 0 / fieldsOf 4)
-    ∷ (getD rooms 5 0 / fieldsOf 5)
-    ∷ 1
-    ∷ []
+unfoldable pub mostFor : (ℕ → ℕ) → List ℕ
+mostFor room = pick (leb 5 (room 0)) 1 0 ∷ map (λ s. room s / fieldsOf s) (1 ∷ 2 ∷ 3 ∷ 4 ∷ 5 ∷ []) ++ (1 ∷ [])
 
-unfoldable pub firstMistake : List ℕ → List ℕ → Mistake
-firstMistake text rooms = mistakeIn text (versionIn (textLines text)) (mostFor rooms)
+-- the room of lent lists, by the section
+abbrev pub roomIn : Lists → ℕ → ℕ
+roomIn before s = length (listFor before s)
 
--- numbers, and zeros behind
-unfoldable pub padded : ℕ → List ℕ → List ℕ
-padded room ns = ns ++ replicate (room - length ns) 0
+unfoldable pub firstMistake : List ℕ → Lists → Mistake
+firstMistake text before = mistakeIn text (versionIn (textLines text)) (mostFor (roomIn before))
 
--- on a mistake every lent place is zero; otherwise the list that the text says, and zeros behind
-unfoldable pub readList : List ℕ → List ℕ → ℕ → List ℕ
-readList text rooms s =
-    pick (isFault (firstMistake text rooms .fault)) (replicate (getD rooms s 0) 0) (padded (getD rooms s 0) (listIn text s))
+-- the numbers that are read of a section: on a mistake none, otherwise the list that the text says
+unfoldable pub readList : List ℕ → Lists → ℕ → List ℕ
+readList text before s = pick (isFault (firstMistake text before .fault)) [] (listIn text s)
 
-unfoldable pub readLength : List ℕ → List ℕ → ℕ → ℕ
-readLength text rooms s = pick (isFault (firstMistake text rooms .fault)) 0 (length (listIn text s))
-
--- the answer, and what is left in the lists that had so much room
-pub record ReadsTo (text rooms : List ℕ) (r : Parsed) (header systems vls streams ports hops : List ℕ) : Type 0 where
-  pub mistake : r .mistake ≡ firstMistake text rooms
-  pub lengths : r .lengths ≡ tabulate (readLength text rooms) 6
-  pub header-is : header ≡ readList text rooms 0
-  pub systems-are : systems ≡ readList text rooms 1
-  pub vls-are : vls ≡ readList text rooms 2
-  pub streams-are : streams ≡ readList text rooms 3
-  pub ports-are : ports ≡ readList text rooms 4
-  pub hops-are : hops ≡ readList text rooms 5
+-- what `read` promises, of the lent lists as they were before and as they are after: the first mistake; how many numbers it read of each
+-- section; and these in the list of each section, with zeros behind
+pub record ReadsTo (text : List ℕ) (before : Lists) (r : Parsed) (after : Lists) : Type 0 where
+  pub mistake : r .mistake ≡ firstMistake text before
+  pub lengths : r .lengths ≡ tabulate (λ s. length (readList text before s)) 6
+  pub held : after ≡ listsBy (λ s. lent (roomIn before s) (readList text before s))

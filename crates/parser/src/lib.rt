@@ -13,10 +13,10 @@ pub use mistakes::Fault;
 pub use mistakes::Mistake;
 pub use mistakes::mistake_of;
 ghost use mathlib.Core.Path.{_≡_};
-ghost use mathlib.Core.List.{[], _∷_};
 ghost use lib.Dec.{leb};
-ghost use lib.ListN.{length, replicate};
+ghost use lib.ListN.{length, getD, replicate};
 ghost use Rattle.base.specs.Pick.{pick};
+ghost use Rattle.table.specs.Lists.{lists};
 ghost use Rattle.notation.specs.Meant.{textLines, sectionIn};
 ghost use Rattle.notation.specs.Steps.{fieldsOf};
 ghost use Rattle.notation.specs.Fitted.{held, fitted};
@@ -41,7 +41,7 @@ fn delay_lines(room: usize) -> usize
 
 // How many lines each section may have, by the room of its list.
 fn most_in(rooms: [usize; 6]) -> [usize; 7]
-    ensures { λ r. ⌜ r ≡ mostFor rooms ⌝ }
+    ensures { λ r. ⌜ r ≡ mostFor (λ s. getD rooms s 0) ⌝ }
 {
     let delays = delay_lines(rooms[0]);
     [
@@ -114,7 +114,26 @@ pub fn read(
     ports: &mut [u64],
     hops: &mut [u64],
 ) -> Parsed
-    ensures { λ r. ⌜ ReadsTo (now (text .entry)) (length (now (header .entry)) ∷ length (now (systems .entry)) ∷ length (now (vls .entry)) ∷ length (now (streams .entry)) ∷ length (now (ports .entry)) ∷ length (now (hops .entry)) ∷ []) r (now (header .exit)) (now (systems .exit)) (now (vls .exit)) (now (streams .exit)) (now (ports .exit)) (now (hops .exit)) ⌝ }
+    ensures { λ r.
+        ⌜
+        ReadsTo
+        (now (text .entry))
+        (lists
+        (now (header .entry))
+        (now (systems .entry))
+        (now (vls .entry))
+        (now (streams .entry))
+        (now (ports .entry))
+        (now (hops .entry)))
+        r
+        (lists
+        (now (header .exit))
+        (now (systems .exit))
+        (now (vls .exit))
+        (now (streams .exit))
+        (now (ports .exit))
+        (now (hops .exit)))
+        ⌝ }
 {
     let version = version_of(text);
     let rooms = [

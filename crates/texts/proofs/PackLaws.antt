@@ -3,41 +3,25 @@
 use Prim.Native.Nat.{ℕ, _≤_, _<_}
 use mathlib.Core.Path.{_≡_, refl, sym, ap, subst, _∙_}
 use mathlib.Core.Bool.{true, false}
-use mathlib.Core.List.{List, _++_}
+use mathlib.Core.List.{List}
 use native.Mathlib.Omega.{arith}
-use lib.ListN.{length, getD, take, replicate, length-append}
+use lib.ListN.{length, getD, take, length-append}
 use lib.Seq.{take-at}
-use Rattle.base.specs.Tabulate.{tabulate}
 use Rattle.base.proofs.TabulateLaws.{tabulate-at}
 use Rattle.notation.specs.Meant.{listIn}
 use Rattle.table.specs.declared.Written.{Written}
-use Rattle.table.specs.Lists.{Lists}
+use Rattle.table.specs.Sections.{lent}
+use Rattle.table.specs.Lists.{Lists, listsBy, listFor}
 use Rattle.table.specs.Write.{Writes}
+use Rattle.table.proofs.ListsLaws.{list-by}
 use Rattle.parser.specs.declared.mistakes.Fault.{Fault}
 use Rattle.parser.specs.declared.mistakes.Fault.the-variants.{Nothing, Unknown, NotSaid, Over, TooMany, NoDelays}
 use Rattle.parser.specs.declared.mistakes.Mistake.{Mistake}
 use Rattle.parser.specs.declared.Parsed.{Parsed}
 use Rattle.parser.specs.Mistakes.{isFault}
-use Rattle.parser.specs.Tables.{firstMistake, padded, readList, readLength, ReadsTo}
+use Rattle.parser.specs.Tables.{roomIn, firstMistake, readList, ReadsTo}
 use Rattle.texts.specs.Texts.{said}
-
-module _ (text rooms : List ℕ) (good : isFault (firstMistake text rooms .fault) ≡ false) (lengths : List ℕ)
-    (are : lengths ≡ tabulate (readLength text rooms) 6) (s : ℕ) (h : s < 6) (list : List ℕ) (is : list ≡ readList text rooms s) where
-  long : getD lengths s 0 ≡ length (listIn text s)
-  unfolding readLength
-  long = ap (λ (l : List ℕ). getD l s 0) are ∙ tabulate-at (readLength text rooms) 6 s 0 h ∙ rw good
-
-  whole : list ≡ padded (getD rooms s 0) (listIn text s)
-  unfolding readList
-  whole = is ∙ rw good
-
-  pub within-list : getD lengths s 0 ≤ length list
-  unfolding padded
-  within-list = rw (whole, long, length-append) (omega arith)
-
-  pub list-read : take (getD lengths s 0) list ≡ listIn text s
-  unfolding padded
-  list-read = rw (whole, long) (take-at (listIn text s) _ (length (listIn text s)) refl)
+use Rattle.texts.proofs.ReadLaws.{by-same}
 
 any-other : (f : Fault) → (f ≡ Nothing → ⊥) → isFault f ≡ true
 unfolding isFault
@@ -48,52 +32,41 @@ any-other Over n = refl
 any-other TooMany n = refl
 any-other NoDelays n = refl
 
-module _ (text rooms : List ℕ) (r : Parsed) (header systems vls streams ports hops : List ℕ)
-    (to : ReadsTo text rooms r header systems vls streams ports hops) where
-  faults : isFault (firstMistake text rooms .fault) ≡ isFault (r .mistake .fault)
+module _ (text : List ℕ) (before : Lists) (r : Parsed) (after : Lists) (to : ReadsTo text before r after) where
+  faults : isFault (firstMistake text before .fault) ≡ isFault (r .mistake .fault)
   faults = ap (λ (m : Mistake). isFault (m .fault)) (sym (to .mistake))
 
-  pub no-mistake : r .mistake .fault ≡ Nothing → isFault (firstMistake text rooms .fault) ≡ false
+  pub no-mistake : r .mistake .fault ≡ Nothing → isFault (firstMistake text before .fault) ≡ false
   unfolding isFault
   no-mistake e = faults ∙ ap isFault e
 
-  pub a-mistake : (r .mistake .fault ≡ Nothing → ⊥) → isFault (firstMistake text rooms .fault) ≡ true
+  pub a-mistake : (r .mistake .fault ≡ Nothing → ⊥) → isFault (firstMistake text before .fault) ≡ true
   a-mistake n = faults ∙ any-other (r .mistake .fault) n
 
-  module _ (good : isFault (firstMistake text rooms .fault) ≡ false) where
-    pub lists-within :
-        (getD (r .lengths) 0 0 ≤ length header) × (getD (r .lengths) 1 0 ≤ length systems) × (getD (r .lengths) 2 0 ≤ length vls)
-        × (getD (r .lengths) 3 0 ≤ length streams) × (getD (r .lengths) 4 0 ≤ length ports) × (getD (r .lengths) 5 0 ≤ length hops)
-    lists-within = (
-      within-list text rooms good (r .lengths) (to .lengths) 0 (omega arith) header (to .header-is),
-      within-list text rooms good (r .lengths) (to .lengths) 1 (omega arith) systems (to .systems-are),
-      within-list text rooms good (r .lengths) (to .lengths) 2 (omega arith) vls (to .vls-are),
-      within-list text rooms good (r .lengths) (to .lengths) 3 (omega arith) streams (to .streams-are),
-      within-list text rooms good (r .lengths) (to .lengths) 4 (omega arith) ports (to .ports-are),
-      within-list text rooms good (r .lengths) (to .lengths) 5 (omega arith) hops (to .hops-are),
-    )
+  module _ (good : isFault (firstMistake text before .fault) ≡ false) where
+    long : (s : ℕ) → s < 6 → getD (r .lengths) s 0 ≡ length (listIn text s)
+    unfolding readList
+    long s h = ap (λ (l : List ℕ). getD l s 0) (to .lengths) ∙ tabulate-at (λ s. length (readList text before s)) 6 s 0 h ∙ rw good
+
+    whole : (s : ℕ) → s < 6 → listFor after s ≡ lent (roomIn before s) (listIn text s)
+    unfolding readList
+    whole s h = ap (λ (ls : Lists). listFor ls s) (to .held) ∙ list-by (λ s. lent (roomIn before s) (readList text before s)) s h ∙ rw good
+
+    pub list-within : (s : ℕ) → s < 6 → getD (r .lengths) s 0 ≤ length (listFor after s)
+    unfolding lent
+    list-within s h = rw (whole s h, long s h, length-append) (omega arith)
+
+    list-read : (s : ℕ) → s < 6 → take (getD (r .lengths) s 0) (listFor after s) ≡ listIn text s
+    unfolding lent
+    list-read s h = rw (whole s h, long s h) (take-at (listIn text s) _ (length (listIn text s)) refl)
 
     -- the lists as far as their lengths go
     abbrev pub firsts : Lists
-    firsts = record {
-      header = take (getD (r .lengths) 0 0) header;
-      systems = take (getD (r .lengths) 1 0) systems;
-      vls = take (getD (r .lengths) 2 0) vls;
-      streams = take (getD (r .lengths) 3 0) streams;
-      ports = take (getD (r .lengths) 4 0) ports;
-      hops = take (getD (r .lengths) 5 0) hops;
-    }
+    firsts = listsBy (λ s. take (getD (r .lengths) s 0) (listFor after s))
 
     lists-said : firsts ≡ said text
     unfolding said
-    lists-said = λ i. record {
-      header = list-read text rooms good (r .lengths) (to .lengths) 0 (omega arith) header (to .header-is) i;
-      systems = list-read text rooms good (r .lengths) (to .lengths) 1 (omega arith) systems (to .systems-are) i;
-      vls = list-read text rooms good (r .lengths) (to .lengths) 2 (omega arith) vls (to .vls-are) i;
-      streams = list-read text rooms good (r .lengths) (to .lengths) 3 (omega arith) streams (to .streams-are) i;
-      ports = list-read text rooms good (r .lengths) (to .lengths) 4 (omega arith) ports (to .ports-are) i;
-      hops = list-read text rooms good (r .lengths) (to .lengths) 5 (omega arith) hops (to .hops-are) i;
-    }
+    lists-said = by-same (λ s. take (getD (r .lengths) s 0) (listFor after s)) (listIn text) list-read
 
     pub said-written : (room : ℕ) (w : Written) (out : List ℕ) → Writes firsts room w out → Writes (said text) room w out
     said-written room w out h = subst (λ (ls : Lists). Writes ls room w out) lists-said h

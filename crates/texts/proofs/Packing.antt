@@ -1,15 +1,16 @@
 -- A table goes to text and back through `pack`: its lists have room in those that are lent, the text printed for them has no mistake and
 -- says them, and the writer gives the table's bytes.
 -- Assumes nothing.
-use Prim.Native.Nat.{ℕ, suc, _*_, _≤_, _<_}
+use Prim.Native.Nat.{ℕ, zero, suc, _≤_, _<_}
 use mathlib.Core.Path.{_≡_, sym, ap, subst, _∙_}
 use mathlib.Core.Bool.{true, false, true≢false}
 use mathlib.Core.List.{List}
 use mathlib.Core.Option.{none}
 use native.Mathlib.Omega.{arith}
+use native.Mathlib.Decide.{decLt}
 use native.Mathlib.Nat.{mul-le-mul-right}
 use lib.Dec.{eqb}
-use lib.ListN.{length, getD}
+use lib.ListN.{length, replicate, length-replicate}
 use Rattle.base.specs.Pick.{pick}
 use Rattle.bits.specs.Bits.{Bytes}
 use Rattle.layout.specs.declared.Way.the-variants.{Reading}
@@ -22,16 +23,17 @@ use Rattle.table.specs.Sections.{headerRow, lent}
 use Rattle.table.specs.Lists.{Lists, listFor, unpacked}
 use Rattle.table.specs.Unpack.{unpackAnswer}
 use Rattle.table.specs.Write.{tableSize, writes, Writes}
+use Rattle.table.specs.RoundTrip.{RoomFor}
 use Rattle.table.proofs.AnswerLaws.{unpack-was}
+use Rattle.table.proofs.ListsLaws.{list-by, no-list}
 use Rattle.table.proofs.UnpackLaws.{length-list, length-header, size-unpacked}
 use Rattle.table.proofs.ReadingLaws.{few}
 use Rattle.table.proofs.RoundTrip.{write-after-unpack}
-use Rattle.notation.proofs.ShapeLaws.{by-section}
 use Rattle.parser.specs.Mistakes.{isFault}
-use Rattle.parser.specs.Tables.{firstMistake}
+use Rattle.parser.specs.Tables.{roomIn, firstMistake}
 use Rattle.texts.specs.declared.Packed.the-variants.{Mistaken, Answered}
-use Rattle.texts.specs.Texts.{textFor, LongEnough}
-use Rattle.texts.specs.Packing.{rooms, PacksTo, Packs-again}
+use Rattle.texts.specs.Texts.{textFor}
+use Rattle.texts.specs.Packing.{roomOf, blank, PacksTo, Packs-again}
 use Rattle.texts.proofs.SaidLaws.{said-back}
 use Rattle.texts.proofs.ReadLaws.{printed-is-read}
 
@@ -40,25 +42,24 @@ module _ (bytes : List ℕ) (ok : rowFault Reading 0 (headerRow bytes) ≡ none)
   unfolding capacity
   few-numbers s h = rw (length-list bytes s h) (mul-le-mul-right (listed (suc s)) (few bytes ok s h))
 
-  long-enough : LongEnough (unpacked bytes) rooms
-  unfolding LongEnough listFor unpacked
-  long-enough = by-section
-      (λ s. s ≤ 5 → length (listFor (unpacked bytes) s) ≤ getD rooms s 0)
-      (λ h. omega (arith, length-header bytes))
-      (λ h. few-numbers 0 (omega arith))
-      (λ h. few-numbers 1 (omega arith))
-      (λ h. few-numbers 2 (omega arith))
-      (λ h. few-numbers 3 (omega arith))
-      (λ h. few-numbers 4 (omega arith))
-      (λ h. absurd (omega arith))
-      (λ s h. absurd (omega arith))
+  few-first : length (listFor (unpacked bytes) 0) ≤ roomIn blank 0
+  unfolding listFor unpacked
+  few-first = omega (arith, length-header bytes)
+
+  long-enough : RoomFor (unpacked bytes) blank
+  long-enough zero = few-first
+  long-enough (suc s) = go (decLt (suc s) 6)
+    where
+      go : Dec (suc s < 6) → length (listFor (unpacked bytes) (suc s)) ≤ roomIn blank (suc s)
+      go (yes h) = rw (list-by (λ s. replicate (roomOf s) 0) (suc s) h, length-replicate) (few-numbers s h)
+      go (no n) = rw (no-list (unpacked bytes) (suc s) (omega arith)) (omega arith)
 
 module _ (bytes : List ℕ) (n : Lists) (b : Bytes bytes) (e : unpackAnswer bytes n ≡ accepted) (room : ℕ)
     (long : length bytes ≤ room) where
-  no-fault : isFault (firstMistake (textFor (unpacked bytes)) rooms .fault) ≡ false
+  no-fault : isFault (firstMistake (textFor (unpacked bytes)) blank .fault) ≡ false
   unfolding isFault
   no-fault =
-      ap isFault (printed-is-read (unpacked bytes) room (write-after-unpack bytes n b e room long .0) rooms
+      ap isFault (printed-is-read (unpacked bytes) room (write-after-unpack bytes n b e room long .0) blank
       (long-enough bytes (unpack-was bytes n e .header)))
 
   is-written : writes (unpacked bytes) room ≡ true

@@ -1,6 +1,6 @@
 -- The lines of a printed text all say their numbers, and lent lists that are long enough have room for them.
 -- Assumes nothing.
-use Prim.Native.Nat.{ℕ, zero, suc, _+_, _*_, _/_, _≤_, _<_}
+use Prim.Native.Nat.{ℕ, zero, suc, _*_, _/_, _≤_, _<_}
 use mathlib.Core.Path.{_≡_, refl, ap, _∙_}
 use mathlib.Core.List.{List, [], _∷_, _++_, append-nil}
 use native.Mathlib.Omega.{arith}
@@ -10,6 +10,7 @@ use lib.ListN.{length, getD, drop, replicate, length-drop, getD-replicate}
 use Rattle.base.specs.Tabulate.{tabulate}
 use Rattle.base.proofs.Tests.{within-yes}
 use Rattle.layout.specs.Rows.{listed}
+use Rattle.table.specs.Lists.{Lists}
 use Rattle.notation.specs.Notation.{Word, versionLine, lineFields}
 use Rattle.notation.specs.Meant.{lineSaid, sectionIn}
 use Rattle.notation.specs.Steps.{fieldsOf}
@@ -20,7 +21,7 @@ use Rattle.notation.proofs.LineLaws.{line-back}
 use Rattle.notation.proofs.BackLaws.{version-sayable, version-said, table-said, lines-are}
 use Rattle.parser.specs.declared.mistakes.Fault.the-variants.{Nothing}
 use Rattle.parser.specs.Mistakes.{mistakeIn}
-use Rattle.parser.specs.Tables.{mostFor, firstMistake}
+use Rattle.parser.specs.Tables.{mostFor, roomIn, firstMistake}
 use Rattle.parser.proofs.RightLaws.{Right, AllRight, whole-below, Enough, right-lines}
 use Rattle.parser.proofs.ReadLaws.{seven}
 
@@ -78,16 +79,16 @@ module _ (lists : ℕ → List ℕ) (p : Printable lists) where
   )
 
   -- ---- room
-  module _ (five : length (lists 0) ≡ 5) (rooms : List ℕ) (long : (s : ℕ) → s ≤ 5 → length (lists s) ≤ getD rooms s 0) where
-    record-room : (s : ℕ) → 1 ≤ s → s ≤ 5 → length (sectionIn version s lines) ≤ getD rooms s 0 / fieldsOf s * fieldsOf s
+  module _ (five : length (lists 0) ≡ 5) (before : Lists) (long : (s : ℕ) → length (lists s) ≤ roomIn before s) where
+    record-room : (s : ℕ) → 1 ≤ s → s ≤ 5 → length (sectionIn version s lines) ≤ roomIn before s / fieldsOf s * fieldsOf s
     record-room s low high =
         let n = listed s in
-        let room = getD rooms s 0 in
+        let room = roomIn before s in
         let e = record-fields s low high in
         let q = length (lists s) / n in
         let some-are : 1 ≤ n = omega (arith, fields-some s (omega arith), e) in
         let over = lt-div-mul-add {a = room} {b = n} some-are in
-        let fits : q ≤ room / n = whole-below q (room / n) n (omega (arith, over, p .whole s low high, long s high)) in
+        let fits : q ≤ room / n = whole-below q (room / n) n (omega (arith, over, p .whole s low high, long s)) in
         let up : q * n ≤ room / n * n = mul-le-mul-right n fits in
         rw (
           table-said lists p s,
@@ -108,11 +109,11 @@ module _ (lists : ℕ → List ℕ) (p : Printable lists) where
     version-many : length (sectionIn version 6 lines) ≡ 1
     version-many = rw (table-said lists p 6)
 
-    room-for : (s : ℕ) → s ≤ versionLine → length (sectionIn version s lines) ≤ getD (mostFor rooms) s 0 * fieldsOf s
+    room-for : (s : ℕ) → s ≤ versionLine → length (sectionIn version s lines) ≤ getD (mostFor (roomIn before)) s 0 * fieldsOf s
     unfolding mostFor
     room-for = by-section
-        (λ s. s ≤ versionLine → length (sectionIn version s lines) ≤ getD (mostFor rooms) s 0 * fieldsOf s)
-        (λ h. rw (le-leb 5 (getD rooms 0 0) (omega (arith, long 0 (omega arith), five))) delays-room)
+        (λ s. s ≤ versionLine → length (sectionIn version s lines) ≤ getD (mostFor (roomIn before)) s 0 * fieldsOf s)
+        (λ h. rw (le-leb 5 (roomIn before 0) (omega (arith, long 0, five))) delays-room)
         (λ h. record-room 1 (omega arith) (omega arith))
         (λ h. record-room 2 (omega arith) (omega arith))
         (λ h. record-room 3 (omega arith) (omega arith))
@@ -124,15 +125,15 @@ module _ (lists : ℕ → List ℕ) (p : Printable lists) where
     none-yet : (s : ℕ) → s ≤ versionLine → getD {A = ℕ} (replicate 7 0) s 0 * fieldsOf s ≡ 0
     none-yet s h = ap (λ (k : ℕ). k * fieldsOf s) (getD-replicate 7 s 0 0 (omega arith)) ∙ zero-mul (fieldsOf s)
 
-    enough : Enough version (mostFor rooms) (seven rooms) (replicate 7 0) (λ s. length (sectionIn version s lines))
+    enough : Enough version (mostFor (roomIn before)) (seven (roomIn before)) (replicate 7 0) (λ s. length (sectionIn version s lines))
     enough = record {
       long = refl;
       fits = λ s h. omega (arith, none-yet s h, room-for s h);
       delays = omega (arith, delays-many);
     }
 
-    pub printed-right : firstMistake (printed lists) rooms .fault ≡ Nothing
+    pub printed-right : firstMistake (printed lists) before .fault ≡ Nothing
     unfolding firstMistake mistakeIn
     printed-right =
         rw (lines-are lists p, version-said lists p)
-        (right-lines version (mostFor rooms) (seven rooms) (printed lists) lines (replicate 7 0) 0 lines-right enough)
+        (right-lines version (mostFor (roomIn before)) (seven (roomIn before)) (printed lists) lines (replicate 7 0) 0 lines-right enough)

@@ -1,16 +1,16 @@
 -- A text that is packed to lent bytes: its first mistake, or what the writer answers for the lists that it says, and leaves.
 -- Assumes nothing.
-use Prim.Native.Nat.{ℕ, _≤_}
+use Prim.Native.Nat.{ℕ, zero, suc, _≤_}
 use mathlib.Core.Path.{_≡_}
 use mathlib.Core.Bool.{true, false}
-use mathlib.Core.List.{List, [], _∷_, map}
+use mathlib.Core.List.{List}
 use lib.ListN.{length, replicate}
 use Rattle.bits.specs.Bits.{Bytes}
 use Rattle.layout.specs.Layout.{headerNames}
 use Rattle.layout.specs.Sizes.{capacity}
 use Rattle.table.specs.Answers.{accepted}
 use Rattle.table.specs.Sections.{lent}
-use Rattle.table.specs.Lists.{Lists, unpacked}
+use Rattle.table.specs.Lists.{Lists, listsBy, unpacked}
 use Rattle.table.specs.Unpack.{unpackAnswer}
 use Rattle.table.specs.Write.{Writes}
 use Rattle.parser.specs.Mistakes.{isFault}
@@ -20,15 +20,20 @@ use Rattle.texts.specs.declared.Packed.the-variants.{Mistaken, Answered}
 use Rattle.texts.specs.Texts.{said, textFor}
 
 -- the room of the lists that a text is read to: the version and the delays, and the most records of each section
-abbrev pub rooms : List ℕ
-rooms = length headerNames ∷ map capacity (1 ∷ 2 ∷ 3 ∷ 4 ∷ 5 ∷ [])
+abbrev pub roomOf : ℕ → ℕ
+roomOf zero = length headerNames
+roomOf (suc s) = capacity (suc s)
+
+-- the lists themselves, as they are before: of zeros
+abbrev pub blank : Lists
+blank = listsBy (λ s. replicate (roomOf s) 0)
 
 -- on a mistake every lent byte is 0
 unfoldable pub PacksTo : List ℕ → List ℕ → Packed → List ℕ → Type 0
 PacksTo text before (Mistaken m) after =
-    (isFault (firstMistake text rooms .fault) ≡ true) × (m ≡ firstMistake text rooms) × (after ≡ replicate (length before) 0)
+    (isFault (firstMistake text blank .fault) ≡ true) × (m ≡ firstMistake text blank) × (after ≡ replicate (length before) 0)
 PacksTo text before (Answered w) after =
-    (isFault (firstMistake text rooms .fault) ≡ false) × Writes (said text) (length before) w after
+    (isFault (firstMistake text blank .fault) ≡ false) × Writes (said text) (length before) w after
 
 -- Unpacked and printed, a table that the unpacker accepts is packed again to the same bytes, with zeros behind, by any routine that keeps
 -- `PacksTo` and is lent enough of them.

@@ -3,18 +3,20 @@
 use Prim.Native.Nat.{ℕ, _≤_}
 use mathlib.Core.List.{List}
 use mathlib.Core.Path.{_≡_}
-use lib.ListN.{length, getD}
+use lib.ListN.{length}
 use Rattle.base.specs.Tabulate.{tabulate}
 use Rattle.bits.specs.Bits.{Bytes}
 use Rattle.table.specs.Answers.{accepted}
+use Rattle.table.specs.Sections.{lent}
 use Rattle.table.specs.Lists.{Lists, listsBy, listFor, unpacked}
 use Rattle.table.specs.Unpack.{unpackAnswer}
+use Rattle.table.specs.RoundTrip.{RoomFor}
 use Rattle.table.specs.Write.{writeAnswer, packed}
 use Rattle.notation.specs.Meant.{listIn}
 use Rattle.notation.specs.Printed.{printed}
 use Rattle.parser.specs.declared.mistakes.Fault.the-variants.{Nothing}
 use Rattle.parser.specs.declared.Parsed.{Parsed}
-use Rattle.parser.specs.Tables.{firstMistake, padded, ReadsTo}
+use Rattle.parser.specs.Tables.{roomIn, firstMistake, ReadsTo}
 
 -- the lists that a text says
 unfoldable pub said : List ℕ → Lists
@@ -28,33 +30,23 @@ textFor ls = printed (listFor ls)
 abbrev pub Said-back : Type 0
 Said-back = (ls : Lists) (room : ℕ) → writeAnswer ls room ≡ accepted → said (textFor ls) ≡ ls
 
--- lent lists that are long enough for these
-unfoldable pub LongEnough : Lists → List ℕ → Type 0
-LongEnough ls rooms = (s : ℕ) → s ≤ 5 → length (listFor ls s) ≤ getD rooms s 0
-
 -- what is printed for them is read without a mistake, into any lent lists that are long enough
 abbrev pub Printed-is-read : Type 0
 Printed-is-read =
-    (ls : Lists) (room : ℕ) → writeAnswer ls room ≡ accepted → (rooms : List ℕ) → LongEnough ls rooms
-    → firstMistake (textFor ls) rooms .fault ≡ Nothing
+    (ls : Lists) (room : ℕ) → writeAnswer ls room ≡ accepted → (before : Lists) → RoomFor ls before
+    → firstMistake (textFor ls) before .fault ≡ Nothing
 
 -- lists that were read: no mistake, how long each is, and each as it is, with zeros behind
-pub record ListsRead (ls : Lists) (rooms : List ℕ) (r : Parsed) (header systems vls streams ports hops : List ℕ) : Type 0 where
+pub record ListsRead (ls before : Lists) (r : Parsed) (after : Lists) : Type 0 where
   pub mistake : r .mistake .fault ≡ Nothing
   pub lengths : r .lengths ≡ tabulate (λ s. length (listFor ls s)) 6
-  pub header-is : header ≡ padded (getD rooms 0 0) (ls .header)
-  pub systems-are : systems ≡ padded (getD rooms 1 0) (ls .systems)
-  pub vls-are : vls ≡ padded (getD rooms 2 0) (ls .vls)
-  pub streams-are : streams ≡ padded (getD rooms 3 0) (ls .streams)
-  pub ports-are : ports ≡ padded (getD rooms 4 0) (ls .ports)
-  pub hops-are : hops ≡ padded (getD rooms 5 0) (ls .hops)
+  pub held : after ≡ listsBy (λ s. lent (roomIn before s) (listFor ls s))
 
 -- a routine that reads as `parser::read` does reads them back from what is printed for them
 abbrev pub Printed-read-back : Type 0
 Printed-read-back =
-    (ls : Lists) (room : ℕ) → writeAnswer ls room ≡ accepted → (rooms : List ℕ) → LongEnough ls rooms
-    → (r : Parsed) (header systems vls streams ports hops : List ℕ) → ReadsTo (textFor ls) rooms r header systems vls streams ports hops
-    → ListsRead ls rooms r header systems vls streams ports hops
+    (ls : Lists) (room : ℕ) → writeAnswer ls room ≡ accepted → (before : Lists) → RoomFor ls before
+    → (r : Parsed) (after : Lists) → ReadsTo (textFor ls) before r after → ListsRead ls before r after
 
 -- unpacked, printed, read and packed again, a table that the unpacker accepts is the same bytes; `Bytes bytes` as in the table's round trip
 abbrev pub Pack-after-unpack : Type 0

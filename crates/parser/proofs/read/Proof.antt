@@ -1,11 +1,11 @@
 -- `parser::read` meets its contract: each list by itself.
 -- Assumes nothing.
 use Prim.Native.Nat.{ℕ}
-use mathlib.Core.Path.{_≡_, refl, ap, _∙_}
+use mathlib.Core.Path.{refl, ap, _∙_}
 use mathlib.Core.Bool.{not}
 use mathlib.Core.List.{List, [], _∷_}
-use lib.ListN.{length}
 use Rattle.base.specs.Tabulate.{tabulate}
+use Rattle.table.specs.Lists.{Lists, lists, listFor}
 use Rattle.parser.specs.Mistakes.{mistakeIn}
 use Rattle.parser.specs.Tables.{mostFor}
 use Rattle.parser.proofs.ReadLaws.{is-first, section-read, header-read}
@@ -14,7 +14,7 @@ use Rattle.parser.proofs.read.Statement.{statement}
 use Rattle.parser.proofs.read.Tie as tie
 
 returns : tie.Need-returns
-unfolding mostFor tabulate
+unfolding mostFor tabulate listFor
 returns c =
     let e5 = c .before .before in
     let e4 = e5 .before .before .before .before in
@@ -26,34 +26,23 @@ returns c =
     let a = tested .before .before .before .before .before .before .before .before .before .before .before .args in
     let version = tested .before .before .before .version-of in
     let mistake = tested .before .mistake-of in
-    let rooms : List ℕ =
-    length (a .header .now) ∷ length (a .systems .now) ∷ length (a .vls .now) ∷ length (a .streams .now) ∷ length (a .ports .now)
-    ∷ length (a .hops .now) ∷ [] in
+    let before : Lists = lists (a .header .now) (a .systems .now) (a .vls .now) (a .streams .now) (a .ports .now) (a .hops .now) in
     let is =
     mistake .ensures
     ∙ ap (λ (most : List ℕ). mistakeIn (a .text .now) (version .result) most) (tested .before .before .most-in .ensures) in
     let good = ap not (tested .is-fault .ensures) in
-    let h = e0 .header-or-zeros in
-    let s1 = e1 .section-or-zeros in
-    let s2 = e2 .section-or-zeros2 in
-    let s3 = e3 .section-or-zeros3 in
-    let s4 = e4 .section-or-zeros4 in
-    let s5 = e5 .section-or-zeros5 in
-    let p0 = header-read (a .text .now) rooms (version .result) _ (mistake .result) (version .ensures) is good _ (h .result) _ refl (h .ensures .0) (h .ensures .1) in
-    let p1 = section-read (a .text .now) rooms (version .result) _ (mistake .result) (version .ensures) is good 0 _ (s1 .result) _ refl refl (s1 .ensures .0) (s1 .ensures .1) in
-    let p2 = section-read (a .text .now) rooms (version .result) _ (mistake .result) (version .ensures) is good 1 _ (s2 .result) _ refl refl (s2 .ensures .0) (s2 .ensures .1) in
-    let p3 = section-read (a .text .now) rooms (version .result) _ (mistake .result) (version .ensures) is good 2 _ (s3 .result) _ refl refl (s3 .ensures .0) (s3 .ensures .1) in
-    let p4 = section-read (a .text .now) rooms (version .result) _ (mistake .result) (version .ensures) is good 3 _ (s4 .result) _ refl refl (s4 .ensures .0) (s4 .ensures .1) in
-    let p5 = section-read (a .text .now) rooms (version .result) _ (mistake .result) (version .ensures) is good 4 _ (s5 .result) _ refl refl (s5 .ensures .0) (s5 .ensures .1) in
+    let section = section-read (a .text .now) before (version .result) _ (mistake .result) (version .ensures) is good in
+    let header = header-read (a .text .now) before (version .result) _ (mistake .result) (version .ensures) is good in
+    let p0 = header _ _ (e0 .header-or-zeros .ensures) in
+    let p1 = section 0 _ _ refl (e1 .section-or-zeros .ensures) in
+    let p2 = section 1 _ _ refl (e2 .section-or-zeros2 .ensures) in
+    let p3 = section 2 _ _ refl (e3 .section-or-zeros3 .ensures) in
+    let p4 = section 3 _ _ refl (e4 .section-or-zeros4 .ensures) in
+    let p5 = section 4 _ _ refl (e5 .section-or-zeros5 .ensures) in
     record {
-      mistake = is-first (a .text .now) rooms (version .result) _ (mistake .result) (version .ensures) is good;
+      mistake = is-first (a .text .now) before (version .result) _ (mistake .result) (version .ensures) is good;
       lengths = λ i. p0 .0 i ∷ p1 .0 i ∷ p2 .0 i ∷ p3 .0 i ∷ p4 .0 i ∷ p5 .0 i ∷ [];
-      header-is = p0 .1;
-      systems-are = p1 .1;
-      vls-are = p2 .1;
-      streams-are = p3 .1;
-      ports-are = p4 .1;
-      hops-are = p5 .1;
+      held = λ i. lists (p0 .1 i) (p1 .1 i) (p2 .1 i) (p3 .1 i) (p4 .1 i) (p5 .1 i);
     }
 
 pub read-spec : {M : Type 1} → statement M

@@ -3,32 +3,41 @@
 use borrow.Author.Needs.{needs}
 use types.Run.{miss}
 use Prim.Native.Nat.{ℕ}
+use native.Mathlib.Omega.{arith}
 use mathlib.Core.List.{List, [], _∷_}
 use Rattle.layout.specs.Limits.{mostIn}
 use Rattle.layout.specs.Layout.{layoutIn, kindsOf, kindOf}
 use Rattle.layout.specs.Fields.{isPadding}
 use Rattle.layout.specs.Rows.{listed, listedIn}
 use Rattle.layout.specs.Sizes.{capacity}
-use Rattle.texts.specs.Packing.{rooms, PacksTo}
-use Rattle.texts.proofs.PackLaws.{no-mistake, a-mistake, lists-within, said-written}
+use Rattle.table.specs.Lists.{listFor}
+use Rattle.texts.specs.Packing.{blank, PacksTo}
+use Rattle.texts.proofs.PackLaws.{no-mistake, a-mistake, list-within, said-written}
 use Rattle.texts.proofs.pack.Statement.{statement}
 use Rattle.texts.proofs.pack.Tie as tie
 
 write-first-requires : tie.Need-write-first-requires
-unfolding capacity mostIn listed listedIn isPadding kindOf kindsOf layoutIn
+unfolding listFor capacity mostIn listed listedIn isPadding kindOf kindsOf layoutIn
 write-first-requires c κs =
     let matched = c .before .before .before .before .before .before .before in
     let read = matched .before .before .before .before .before .before .before .before .before .before .read .ensures in
     let told = matched .enum-told .given .1 in
-    lists-within _ rooms _ _ _ _ _ _ _ read (no-mistake _ rooms _ _ _ _ _ _ _ read told)
+    let within = list-within _ blank _ _ read (no-mistake _ blank _ _ read told) in (
+      within 0 (omega arith),
+      within 1 (omega arith),
+      within 2 (omega arith),
+      within 3 (omega arith),
+      within 4 (omega arith),
+      within 5 (omega arith),
+    )
 
 returns : tie.Need-returns
-unfolding PacksTo capacity mostIn listed listedIn isPadding kindOf kindsOf layoutIn
+unfolding listFor PacksTo capacity mostIn listed listedIn isPadding kindOf kindsOf layoutIn
 returns c =
     let matched = c .before .before .before .before .before .before .before .before .before .before in
     let read = matched .before .before .before .before .before .before .before .before .before .before .read .ensures in
-    let good = no-mistake _ rooms _ _ _ _ _ _ _ read (matched .enum-told .given .1) in
-    (good, said-written _ rooms _ _ _ _ _ _ _ read good _ _ _ (c .before .before .write-first .ensures))
+    let good = no-mistake _ blank _ _ read (matched .enum-told .given .1) in
+    (good, said-written _ blank _ _ read good _ _ _ (c .before .before .write-first .ensures))
 
 -- the tags of the faults
 others : List ℕ
@@ -39,7 +48,7 @@ unfolding PacksTo others capacity mostIn listed listedIn isPadding kindOf kindsO
 returns-2 c =
     let matched = c .before .before .before .before in
     let read = matched .before .before .before .before .before .before .before .before .before .read .ensures in
-    (a-mistake _ rooms _ _ _ _ _ _ _ read (λ e. miss others 0 tt (rw e at (matched .match .keys2))), read .mistake, c .before .before .clear .ensures)
+    (a-mistake _ blank _ _ read (λ e. miss others 0 tt (rw e at (matched .match .keys2))), read .mistake, c .before .before .clear .ensures)
 
 pub pack-spec : {M : Type 1} → statement M
 pack-spec =
