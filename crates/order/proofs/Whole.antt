@@ -29,7 +29,7 @@ use Rattle.network.specs.Link.{onLine, lineTicks, mostTicks}
 use Rattle.network.specs.References.{namesSystem, hasHop, streamNamesVl, namesSubLink, hopNamesVl, namesPort, ofParent, parentEarlier, parentSameVl, parentLowerPort, twinOf, noEarlierTwin, routeLonger, notTooDeep, vlTests, streamTests, hopTests, refFault, badReference, oneSample, badSample}
 use Rattle.network.specs.References as References
 use Rattle.table.specs.Answers.{accepted, firstGiven}
-use Rattle.table.specs.Sections.{headerRow, version, rows, from, row, recordOf, records, lent}
+use Rattle.table.specs.Sections.{headerRow, version, rows, start, row, recordOf, records, lent}
 use Rattle.table.specs.Unpack.{answer1, answer2, answer3, badRow, badSection, answer4}
 use Rattle.table.specs.Lists.{listFor, recordsIn, headerOf, unpacked}
 use Rattle.table.specs.Decoded.{ticksAt, parentOf, systemIn, vlIn, streamIn, portIn, hopIn, networkAt}
@@ -53,7 +53,7 @@ use Rattle.order.proofs.Demand3.{demand-3}
 
 -- ---- the bytes: they read to 01's network
 pub network-is : networkIn table ≡ whole
-unfolding networkIn networkAt systemIn vlIn streamIn portIn hopIn ticksAt parentOf recordsIn listFor tabulate perMs perByte perUnit unpacked headerOf records recordOf row from rows headerRow rowAt rowRoom readAll fieldAt bitAt digit widths layoutIn size total converted convert meaning listed listedIn isPadding numberOr0 msOf indexIn numberOf version kindOf kindsOf named
+unfolding networkIn networkAt systemIn vlIn streamIn portIn hopIn ticksAt parentOf recordsIn listFor tabulate perMs perByte perUnit unpacked headerOf records recordOf row start rows headerRow rowAt rowRoom readAll fieldAt bitAt digit widths layoutIn size total converted convert meaning listed listedIn isPadding numberOr0 msOf indexIn numberOf version kindOf kindsOf named
 network-is = refl
 
 none-1 : answer1 table ≡ none
@@ -65,11 +65,11 @@ unfolding answer2 rowFaultIn fieldTests orderTests orders firstFailing leastFrom
 none-2 = refl
 
 none-3 : answer3 table ≡ none
-unfolding answer3 from rows headerRow rowAt rowRoom readAll fieldAt bitAt digit widths layoutIn size total version kindOf kindsOf named indexIn numberOf
+unfolding answer3 start rows headerRow rowAt rowRoom readAll fieldAt bitAt digit widths layoutIn size total version kindOf kindsOf named indexIn numberOf
 none-3 = refl
 
 none-4 : answer4 table ≡ none
-unfolding answer4 badSection badRow rowFaultIn fieldTests orderTests orders firstFailing leastFrom isSome convert meaning msOf row from rows headerRow rowAt rowRoom readAll fieldAt bitAt digit widths layoutIn size total indexIn numberOf version kindOf kindsOf named
+unfolding answer4 badSection badRow rowFaultIn fieldTests orderTests orders firstFailing leastFrom isSome convert meaning msOf row start rows headerRow rowAt rowRoom readAll fieldAt bitAt digit widths layoutIn size total indexIn numberOf version kindOf kindsOf named
 none-4 = refl
 
 -- ---- the network

@@ -1,29 +1,27 @@
 -- What acceptance says in plain facts, of a table and of lists, and the other way round: each test of the answers is passed, and a refusal has another number.
 -- Assumes nothing.
 use mathlib.Core.Path.{_≡_, ap}
-use mathlib.Core.Bool.{Bool, true, _&&_, and-eq-true-iff}
+use mathlib.Core.Bool.{Bool, true, not}
 use mathlib.Core.List.{List, [], _∷_, _++_}
 use mathlib.Core.Option.{Option, none, some}
-use Prim.Native.Nat.{ℕ, zero, suc, _*_, _/_, _%_, _≤_, _<_}
-use native.Mathlib.Nat.{div-add-mod'}
+use Prim.Native.Nat.{ℕ, zero, suc, _*_, _≤_, _<_}
 use native.Mathlib.Omega.{arith}
 use lib.Dec.{ltb, eqb}
 use lib.ListN.{length}
-use borrow.Author.Tests.{ltb-false, le-leb, le-ltb, eqb-true, eq-eqb}
+use borrow.Author.Tests.{not-true, not-false, ltb-false, le-leb, le-ltb, eqb-true, eq-eqb}
 use Rattle.base.specs.Least.{leastFrom}
 use Rattle.base.proofs.LeastLaws.{least-none, none-was}
-use Rattle.base.proofs.TestLaws.{no-row, no-row-was}
+use Rattle.base.proofs.TestLaws.{none-is, is-none-was, no-row, no-row-was}
 use Rattle.layout.specs.declared.Way.the-variants.{Reading, Writing}
 use Rattle.base.specs.Tests.{isSome, numberOr0}
 use Rattle.layout.specs.Layout.{headerNames}
 use Rattle.layout.specs.Rows.{listed, rowFault}
-use Rattle.layout.proofs.LayoutLaws.{listed-is}
 use Rattle.table.specs.declared.Answer.{Answer}
 use Rattle.table.specs.Answers.{answer, accepted, firstGiven}
 use Rattle.table.specs.Sections.{headerRow, kindIn, rows, from, row}
 use Rattle.table.specs.Lists.{Lists, listFor, recordsIn, kindFor, unpacked}
 use Rattle.table.specs.Unpack.{answer1, answer2, answer3, badRow, badSection, answerAtRow, answer4, shortList, answer11, unpackAnswer}
-use Rattle.table.specs.Write.{headerFor, meantRow, whole, write2, badRecord, badList, answerAtRecord, write4, tableSize, write11, writeAnswer}
+use Rattle.table.specs.Write.{headerFor, meantRow, count, numbersIn, wholeList, whole, write2, badRecord, badList, answerAtRecord, write4, tableSize, write11, writeAnswer}
 use Rattle.table.specs.RoundTrip.{RoomFor}
 use Rattle.table.proofs.FirstLaws.{Refuse, refuse-both, NoneGiven, none-given, accepted-front, pick-refuses, picked-none, row-refuses, no-row-given}
 
@@ -122,49 +120,26 @@ pub record Writable (ls : Lists) : Type 0 where
   pub header : rowFault Writing 0 (headerFor ls) ≡ none
   pub good : (s i : ℕ) → suc s < 6 → i < recordsIn ls (suc s) → rowFault Writing (kindFor ls (suc s)) (meantRow ls (suc s) i) ≡ none
 
--- a list is a whole number of records of m numbers exactly if none is left over
-whole-list : (l : List ℕ) (m : ℕ) → length l % m ≡ 0 → length l ≡ length l / m * m
-whole-list l m e = omega (arith, div-add-mod' (length l) m)
+-- no list is broken exactly if each has the numbers of its rows
+abbrev Full : Lists → Type 0
+Full ls = (s : ℕ) → s < 6 → length (listFor ls s) ≡ count ls s * numbersIn s
 
-list-whole : (l : List ℕ) (m : ℕ) → length l ≡ length l / m * m → length l % m ≡ 0
-list-whole l m e = omega (arith, div-add-mod' (length l) m)
-
-whole-was : (ls : Lists) → whole ls ≡ true
-    → (length (ls .header) ≡ length headerNames) × ((s : ℕ) → suc s < 6 → length (listFor ls (suc s)) ≡ recordsIn ls (suc s) * listed (suc s))
-unfolding whole listFor recordsIn
-whole-was ls e =
-    let hops = eqb (length (ls .hops) % listed 5) 0 in
-    let ports = eqb (length (ls .ports) % listed 4) 0 in
-    let streams = eqb (length (ls .streams) % listed 3) 0 in
-    let vls = eqb (length (ls .vls) % listed 2) 0 in
-    let e1 = and-eq-true-iff (eqb (length (ls .header)) (length headerNames)) (vls && (streams && (ports && hops))) .0 e in
-    let e2 = and-eq-true-iff vls (streams && (ports && hops)) .0 (e1 .1) in
-    let e3 = and-eq-true-iff streams (ports && hops) .0 (e2 .1) in
-    let e4 = and-eq-true-iff ports hops .0 (e3 .1) in
-    (eqb-true _ _ (e1 .0), by-list (eqb-true _ _ (e2 .0)) (eqb-true _ _ (e3 .0)) (eqb-true _ _ (e4 .0)) (eqb-true _ _ (e4 .1)))
-  where
-    by-list : length (ls .vls) % listed 2 ≡ 0 → length (ls .streams) % listed 3 ≡ 0 → length (ls .ports) % listed 4 ≡ 0 → length (ls .hops) % listed 5 ≡ 0
-        → (s : ℕ) → suc s < 6 → length (listFor ls (suc s)) ≡ recordsIn ls (suc s) * listed (suc s)
-    by-list v st p h zero high = rw (listed-is 1) (omega arith)
-    by-list v st p h (suc zero) high = whole-list (ls .vls) (listed 2) v
-    by-list v st p h (suc (suc zero)) high = whole-list (ls .streams) (listed 3) st
-    by-list v st p h (suc (suc (suc zero))) high = whole-list (ls .ports) (listed 4) p
-    by-list v st p h (suc (suc (suc (suc zero)))) high = whole-list (ls .hops) (listed 5) h
-    by-list v st p h (suc (suc (suc (suc (suc s))))) high = absurd (omega arith)
+pub whole-was : (ls : Lists) → whole ls ≡ true → Full ls
+unfolding whole wholeList
+whole-was ls e s h =
+    let none-broken = is-none-was _ (not-true _ e) in
+    eqb-true _ _ (not-false _ (none-was (λ s. not (wholeList ls s)) 0 6 s none-broken (omega arith) (omega arith)))
 
 whole-is : (ls : Lists) → Writable ls → whole ls ≡ true
-unfolding whole listFor recordsIn
-whole-is ls w =
-    rw (
-      eq-eqb (length (ls .header)) (length headerNames) (w .header-list),
-      eq-eqb (length (ls .vls) % listed 2) 0 (list-whole (ls .vls) (listed 2) (w .full 1 (omega arith))),
-      eq-eqb (length (ls .streams) % listed 3) 0 (list-whole (ls .streams) (listed 3) (w .full 2 (omega arith))),
-      eq-eqb (length (ls .ports) % listed 4) 0 (list-whole (ls .ports) (listed 4) (w .full 3 (omega arith))),
-      eq-eqb (length (ls .hops) % listed 5) 0 (list-whole (ls .hops) (listed 5) (w .full 4 (omega arith))),
-    )
+unfolding whole wholeList count numbersIn listFor
+whole-is ls w = ap not (none-is _ (least-none (λ s. not (wholeList ls s)) 0 6 (λ s _ h. ap not (eq-eqb _ _ (full s h)))))
+  where
+    full : Full ls
+    full zero h = omega (arith, w .header-list)
+    full (suc s) h = w .full s h
 
 pub write-was : (ls : Lists) (room : ℕ) → writeAnswer ls room ≡ accepted → Writable ls
-unfolding writeAnswer write2 write4 answerAtRecord badList badRecord
+unfolding writeAnswer write2 write4 answerAtRecord badList badRecord count numbersIn listFor
 write-was ls room e =
     let header : Option Answer = elim (rowFault Writing 0 (headerFor ls)) [ none ↦ none | some test ↦ some (answer 2 0 0 test) ] in
     let at : ℕ → Answer = λ s. answerAtRecord ls s (numberOr0 (badRecord ls s)) in
@@ -174,10 +149,10 @@ write-was ls room e =
     let front = accepted-front (write2 ls ∷ write4 ls ∷ []) (write11 ls room ∷ []) e in
     let none-is = none-given (write2 ls ∷ write4 ls ∷ []) refuse (ap (λ (a : Answer). a .number) front) in
     let e2 = picked-none (whole ls) (answer 2 0 0 0) header (none-is .0) in
-    let parts = whole-was ls (e2 .0) in
+    let full = whole-was ls (e2 .0) in
     record {
-      header-list = parts .0;
-      full = parts .1;
+      header-list = omega (arith, full 0 (omega arith));
+      full = λ s h. full (suc s) h;
       header = no-row-given (rowFault Writing 0 (headerFor ls)) (answer 2 0 0) (e2 .1);
       good =
           clean-was (λ s i. rowFault Writing (kindFor ls s) (meantRow ls s i)) (recordsIn ls)

@@ -26,11 +26,10 @@ use Rattle.layout.proofs.RowLaws.{length-converted}
 use Rattle.layout.proofs.FaultLaws.{faultless}
 use Rattle.layout.proofs.BackLaws.{isNumber, numberAt, same-number}
 use Rattle.layout.proofs.RoomLaws.{room-yes, row-there}
-use Rattle.table.specs.Sections.{headerRow, version, rows, from, row}
+use Rattle.table.specs.Sections.{headerRow, version, rows, start, from, row}
 use Rattle.table.specs.Lists.{Lists, recordsIn, versionFor, headerOf, unpacked}
-use Rattle.table.specs.Write.{headerFor}
-use Rattle.table.proofs.SectionLaws.{padding-at, start, from-most}
-use Rattle.table.proofs.WriteLaws.{count}
+use Rattle.table.specs.Write.{headerFor, count}
+use Rattle.table.proofs.SectionLaws.{padding-at, from-most}
 
 -- ---- the numbers
 -- either way they stay what they are
@@ -68,7 +67,7 @@ header-at bytes h = go (decLt (length bytes) (size 0))
 
 -- the header is row 0 of section 0
 pub first-row : (bytes : List ℕ) → length bytes ≤ 2 ^ 32 → (i : ℕ) → i < rows bytes 0 → row bytes 0 i ≡ headerRow bytes
-unfolding row rows from
+unfolding row rows start
 first-row bytes short i h =
     let e : i ≡ 0 = omega arith in
     rw (header-kind (version bytes)) (ap (λ (a : ℕ). rowAt bytes a 0) (rw e (omega arith)) ∙ sym (header-at bytes short))
@@ -86,7 +85,7 @@ five (a ∷ b ∷ c ∷ d ∷ f ∷ g ∷ l) e = absurd (omega arith)
 
 module _ (ls : Lists) where
   pub header-count : (s : ℕ) → suc s < 6 → getD (headerFor ls) (suc s) 0 ≡ recordsIn ls (suc s)
-  unfolding headerFor
+  unfolding headerFor tabulate
   header-count zero h = refl
   header-count (suc zero) h = refl
   header-count (suc (suc zero)) h = refl
@@ -96,7 +95,7 @@ module _ (ls : Lists) where
 
   -- it has the numbers of the header's list
   pub header-numbers : length (ls .header) ≡ length headerNames → map (named 0 (headerFor ls)) headerNames ≡ ls .header
-  unfolding headerFor named indexIn numberOf layoutIn
+  unfolding headerFor named indexIn numberOf layoutIn tabulate
   header-numbers n = five (ls .header) n
 
   -- a row that has the counts and these numbers, converted, is the header

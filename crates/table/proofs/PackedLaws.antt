@@ -7,7 +7,7 @@ use Prim.Native.Nat.{ℕ, zero, suc, _+_, _*_, _^_, _≤_, _<_}
 use native.Mathlib.Omega.{arith}
 use lib.ListN.{length, getD, take}
 use lib.Seq.{take-all}
-use Rattle.base.specs.Tabulate.{total}
+use Rattle.base.specs.Tabulate.{tabulate, total}
 use Rattle.bits.specs.Rows.{readAll}
 use Rattle.bits.specs.Tables.{Fit}
 use Rattle.layout.specs.declared.Way.the-variants.{Reading, Writing}
@@ -16,13 +16,13 @@ use Rattle.layout.specs.Layout.{layoutIn, layout, kindOf, headerNames, widths, 
 use Rattle.layout.specs.Rows.{named, converted, listed, rowFault}
 use Rattle.layout.proofs.LayoutLaws.{whole-bytes, header-size, header-kind}
 use Rattle.layout.proofs.RoomLaws.{room-yes, row-there}
-use Rattle.table.specs.Sections.{headerRow, version, kindIn, rows, from, row, recordOf}
+use Rattle.table.specs.Sections.{headerRow, version, kindIn, rows, start, from, row, recordOf}
 use Rattle.table.specs.Lists.{Lists, listFor, recordsIn, versionFor, kindFor, headerOf, listIn, unpacked}
-use Rattle.table.specs.Write.{headerFor, packed}
+use Rattle.table.specs.Write.{headerFor, count, meant, storedRow, tableSize, packed}
 use Rattle.table.proofs.AnswerLaws.{Writable, Sound}
 use Rattle.table.proofs.ListsLaws.{lists-same}
-use Rattle.table.proofs.SectionLaws.{start, start-same, start-le, from-is, row-read, records-are}
-use Rattle.table.proofs.WriteLaws.{count, meant, storedRow, size-is-start, length-packed, Fits, row-packed, record-given}
+use Rattle.table.proofs.SectionLaws.{start-same, start-le, row-read, records-are}
+use Rattle.table.proofs.WriteLaws.{length-packed, Fits, row-packed, record-given}
 use Rattle.table.proofs.HeaderLaws.{header-at, header-stays, header-count, header-numbers, counts-short}
 use Rattle.table.proofs.UnpackLaws.{list-is}
 
@@ -40,7 +40,8 @@ module _ (ls : Lists) (w : Writable ls) (back : (s i : ℕ) → s < 6 → i < co
   fits s i h l = back s i h l .fit
 
   long : length (packed ls) ≡ start v (count ls) 6
-  long = length-packed ls ∙ size-is-start ls
+  unfolding tableSize
+  long = length-packed ls
 
   one-header : 0 < count ls 0
   unfolding count
@@ -65,7 +66,7 @@ module _ (ls : Lists) (w : Writable ls) (back : (s i : ℕ) → s < 6 → i < co
       ∙ rw (header-kind v) at (row-packed ls fits 0 0 (omega arith) one-header)
 
   same-version : version (packed ls) ≡ v
-  unfolding version named indexIn numberOf layoutIn headerFor
+  unfolding version named indexIn numberOf layoutIn headerFor tabulate
   same-version = ap (λ (r : List ℕ). getD r 0 0) header-row ∙ header-stays Writing (headerFor ls) (w .header) 0 (omega arith)
 
   -- ---- the counts
@@ -81,7 +82,7 @@ module _ (ls : Lists) (w : Writable ls) (back : (s i : ℕ) → s < 6 → i < co
   starts-are n h = rw same-version (start-same v (rows (packed ls)) (count ls) n (λ s l. rows-packed s (omega arith)))
 
   exact : length (packed ls) ≡ from (packed ls) 6
-  exact = long ∙ sym (starts-are 6 (omega arith)) ∙ sym (from-is (packed ls) 6)
+  exact = long ∙ sym (starts-are 6 (omega arith))
 
   -- ---- the rows
   row-is : (s i : ℕ) → s < 6 → i < count ls s → row (packed ls) s i ≡ storedRow ls s i

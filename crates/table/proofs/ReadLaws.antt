@@ -33,10 +33,10 @@ use Rattle.table.specs.Answers.{accepted}
 use Rattle.table.specs.Sections.{headerRow, kindIn, rows, row, recordOf}
 use Rattle.table.specs.Lists.{recordsIn, recordAt, headerOf, unpacked}
 use Rattle.table.specs.Decoded.{ticksAt, systemIn, vlIn, streamIn, portIn}
+use Rattle.table.specs.Write.{count}
 use Rattle.table.specs.Read.{networkIn, badRefSection, answerAtReference, answer5, readAnswer}
 use Rattle.table.proofs.AnswerLaws.{Sound}
 use Rattle.table.proofs.SectionLaws.{record-at}
-use Rattle.table.proofs.WriteLaws.{count}
 use Rattle.table.proofs.UnpackLaws.{list-is, count-is}
 use Rattle.table.proofs.DecodedLaws.{rules-are, send-least, send-greatest, receive-least, receive-greatest, systems-are, vls-are, streams-are, ports-are, hops-are, system-there, vl-there, stream-there, port-there}
 use Rattle.table.proofs.ReadingLaws.{few, read-accepts}

@@ -9,10 +9,10 @@ use Rattle.layout.proofs.RoomLaws.{row-fits}
 use Rattle.layout.proofs.BackLaws.{read-written, read-writable, written-fits, written-readable, written-read}
 use Rattle.table.specs.Sections.{kindIn, rows, from, row}
 use Rattle.table.specs.Lists.{kindFor, unpacked}
-use Rattle.table.specs.Write.{packed}
+use Rattle.table.specs.Write.{count, meant, packed}
 use Rattle.table.specs.RoundTrip.{Unpack-after-write, Write-after-unpack, Determined}
 use Rattle.table.proofs.AnswerLaws.{unpack-was, unpack-is, write-was, write-is}
-use Rattle.table.proofs.WriteLaws.{count, meant, good-rows, length-meant}
+use Rattle.table.proofs.WriteLaws.{good-rows, length-meant}
 use Rattle.table.proofs.UnpackLaws.{Again, sound-rows, size-unpacked, same-bytes, writable}
 use Rattle.table.proofs.PackedLaws.{Back, header-fits, packed-sound, same-lists}
 

@@ -26,7 +26,7 @@ use Rattle.layout.proofs.LayoutLaws.{listed-fields, listed-same, unlisted, whol
 use Rattle.layout.proofs.ReadLaws.{count-lt}
 use Rattle.layout.proofs.RowLaws.{length-converted, converted-at}
 use Rattle.layout.proofs.RoomLaws.{room-yes, row-there}
-use Rattle.table.specs.Sections.{headerRow, version, kindIn, rows, from, row, recordOf, records}
+use Rattle.table.specs.Sections.{headerRow, version, kindIn, rows, start, from, row, recordOf, records}
 
 -- ---- padding means 0
 padding-means : (s k n : ℕ) → listedIn (layout s) ≤ k → numberOr0 (convert Reading (getD (layout s) k blank) n) ≡ 0
@@ -69,11 +69,6 @@ padded-in v s raw = rw (listed-same v s) at (padded (kindOf v s) raw)
 abbrev pub sectionAt : ℕ → (ℕ → ℕ) → ℕ → Section
 sectionAt v count s = record { widths = widths (kindOf v s); count = count s }
 
--- the byte where a section begins
-unfoldable pub start : ℕ → (ℕ → ℕ) → ℕ → ℕ
-start v count zero = 0
-start v count (suc s) = start v count s + count s * size (kindOf v s)
-
 pub start-same : (v : ℕ) (f g : ℕ → ℕ) (n : ℕ) → ((s : ℕ) → s < n → f s ≡ g s) → start v f n ≡ start v g n
 unfolding start
 start-same v f g zero same = refl
@@ -106,11 +101,6 @@ table-read bytes v count (suc n) =
     ∙ ap₂ (λ (r : List (List (List ℕ))) (a : ℕ). r ++ (readRows bytes a (widths (kindOf v n)) (count n) ∷ [])) (table-read bytes v count n) here
 
 module _ (bytes : List ℕ) where
-  pub from-is : (s : ℕ) → from bytes s ≡ start (version bytes) (rows bytes) s
-  unfolding from start
-  from-is zero = refl
-  from-is (suc s) = rw (from-is s)
-
   -- ---- a count of rows has at most 12 bits, so that no section begins far behind
   pub rows-few : (s : ℕ) → s < 6 → rows bytes s < 4096
   unfolding rows headerRow
@@ -123,7 +113,7 @@ module _ (bytes : List ℕ) where
       mul-le-mul {n₁ = rows bytes s} {n₂ = 4096} (omega arith) (size-most (kindIn bytes s))
 
   pub from-most : (s : ℕ) → s ≤ 6 → from bytes s ≤ s * 57344
-  unfolding from
+  unfolding start
   from-most zero h = omega arith
   from-most (suc s) h = omega (arith, from-most s (omega arith), section-most s h)
 
@@ -134,8 +124,6 @@ module _ (bytes : List ℕ) where
   row-read fits short s i h l =
       let k = kindIn bytes s in
       let a = 8 * (from bytes s + i * size k) in
-      let begins = from-is s in
-      let ends = from-is 6 in
       let next = start-le (version bytes) (rows bytes) (suc s) 6 h in
       let bits = whole-bytes k in
       let more = mul-le-mul-right (size k) l in

@@ -14,13 +14,13 @@ use Rattle.layout.specs.declared.Way.the-variants.{Reading, Writing}
 use Rattle.layout.specs.Layout.{layout, kindOf, headerNames, widths}
 use Rattle.layout.specs.Rows.{converted, listed, rowFault}
 use Rattle.layout.proofs.LayoutLaws.{listed-some, header-kind}
-use Rattle.table.specs.Sections.{headerRow, version, kindIn, rows, row, recordOf}
+use Rattle.table.specs.Sections.{headerRow, version, kindIn, rows, start, row, recordOf}
 use Rattle.table.specs.Lists.{listFor, recordsIn, versionFor, kindFor, headerOf, listIn, unpacked}
-use Rattle.table.specs.Write.{meantRow, tableSize, packed}
+use Rattle.table.specs.Write.{count, meant, meantRow, tableSize, packed}
 use Rattle.table.proofs.AnswerLaws.{Sound, Writable}
 use Rattle.table.proofs.ListsLaws.{list-by}
-use Rattle.table.proofs.SectionLaws.{padded-in, start, start-same, from-is, row-read, length-records, record-at}
-use Rattle.table.proofs.WriteLaws.{count, meant, size-is-start, packed-is}
+use Rattle.table.proofs.SectionLaws.{padded-in, start-same, row-read, length-records, record-at}
+use Rattle.table.proofs.WriteLaws.{packed-is}
 use Rattle.table.proofs.HeaderLaws.{header-rows, version-meant, first-row, header-short, header-meant}
 
 -- a row of the table, read and written again: it is the same, and what it means has no fault
@@ -82,8 +82,8 @@ module _ (bytes : List ℕ) where
         ∙ start-same (version bytes) (count (unpacked bytes)) (rows bytes) n (λ s l. count-is s (omega arith))
 
     pub size-unpacked : tableSize (unpacked bytes) ≡ length bytes
-    size-unpacked =
-        size-is-start (unpacked bytes) ∙ starts-are 6 (omega arith) ∙ sym (from-is bytes 6) ∙ sym (sound .exact)
+    unfolding tableSize
+    size-unpacked = starts-are 6 (omega arith) ∙ sym (sound .exact)
 
     -- ---- where each row gives itself again
     module _ (again : (s i : ℕ) → s < 6 → i < rows bytes s → Again bytes s i) where

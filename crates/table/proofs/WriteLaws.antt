@@ -1,7 +1,7 @@
 -- The lists as sections, of which the header is one of one row: the bytes that they are packed to have each row as it is stored, and no other bytes do.
 -- Assumes nothing.
-use mathlib.Core.Path.{_≡_, refl, sym, ap, _∙_}
-use mathlib.Core.List.{List, [], _∷_, _++_}
+use mathlib.Core.Path.{_≡_, sym, ap, _∙_}
+use mathlib.Core.List.{List, []}
 use mathlib.Core.Option.{none}
 use Prim.Native.Nat.{ℕ, zero, suc, _+_, _-_, _*_, _≤_, _<_}
 use native.Mathlib.Nat.{mul-le-mul-right}
@@ -17,61 +17,26 @@ use Rattle.bits.proofs.ByteLaws.{bytes-zero}
 use Rattle.bits.proofs.RowLaws.{length-rows, row-at, fit-rows-of}
 use Rattle.bits.proofs.TableLaws.{table-back, table-carried, length-put-table, fit-more}
 use Rattle.layout.specs.declared.Way.the-variants.{Writing}
-use Rattle.layout.specs.Layout.{layout, widths, size}
-use Rattle.layout.specs.Rows.{converted, listed, rowFault}
+use Rattle.layout.specs.Layout.{layout, widths}
+use Rattle.layout.specs.Rows.{listed, rowFault}
 use Rattle.layout.proofs.LayoutLaws.{header-fields, listed-fields, listed-same, header-kind}
+use Rattle.table.specs.Sections.{start}
 use Rattle.table.specs.Lists.{Lists, listFor, recordsIn, versionFor, kindFor}
-use Rattle.table.specs.Write.{headerFor, meantRow, storedRows, sectionOf, sections, parts, tableSize, packed}
+use Rattle.table.specs.Write.{headerFor, meantRow, count, meant, storedRow, sections, parts, tableSize, packed}
 use Rattle.table.proofs.AnswerLaws.{Writable}
-use Rattle.table.proofs.SectionLaws.{sectionAt, start, bits-are, rowsAt, table-read}
-
--- ---- the header is section 0
--- how many rows a section has, and what each means
-unfoldable pub count : Lists → ℕ → ℕ
-count ls zero = 1
-count ls (suc s) = recordsIn ls (suc s)
-
-unfoldable pub meant : Lists → ℕ → ℕ → List ℕ
-meant ls zero i = headerFor ls
-meant ls (suc s) i = meantRow ls (suc s) i
+use Rattle.table.proofs.SectionLaws.{sectionAt, bits-are, rowsAt, table-read}
 
 module _ (ls : Lists) where
   abbrev v : ℕ
   v = versionFor ls
 
-  -- a row as it is stored, and those of a section
-  abbrev pub storedRow : ℕ → ℕ → List ℕ
-  storedRow s i = converted Writing (layout (kindFor ls s)) (meant ls s i)
-
-  storedIn : ℕ → List (List ℕ)
-  storedIn s = tabulate (storedRow s) (count ls s)
-
-  stored-rows : (s n : ℕ) → storedRows ls (suc s) n ≡ tabulate (storedRow (suc s)) n
-  unfolding storedRows tabulate meant
-  stored-rows s zero = refl
-  stored-rows s (suc n) = ap (λ (r : List (List ℕ)). r ++ (storedRow (suc s) n ∷ [])) (stored-rows s n)
-
-  sections-are : sections ls ≡ tabulate (sectionAt v (count ls)) 6
-  unfolding sections sectionOf tabulate count
-  sections-are = rw (header-kind v)
-
-  parts-are : parts ls ≡ tabulate storedIn 6
-  unfolding parts tabulate storedIn count meant
-  parts-are = rw (
-    stored-rows 0 (recordsIn ls 1),
-    stored-rows 1 (recordsIn ls 2),
-    stored-rows 2 (recordsIn ls 3),
-    stored-rows 3 (recordsIn ls 4),
-    stored-rows 4 (recordsIn ls 5),
-    header-kind v,
-  )
-
-  pub size-is-start : tableSize ls ≡ start v (count ls) 6
-  unfolding tableSize start count
-  size-is-start = omega (arith, ap size (header-kind v))
+  -- the rows of a section as they are stored
+  abbrev storedIn : ℕ → List (List ℕ)
+  storedIn s = tabulate (storedRow ls s) (count ls s)
 
   sections-fill : tableBits (sections ls) ≡ 8 * tableSize ls
-  sections-fill = rw (sections-are, size-is-start) (bits-are v (count ls) 6)
+  unfolding sections tableSize
+  sections-fill = bits-are v (count ls) 6
 
   pub length-packed : length (packed ls) ≡ tableSize ls
   unfolding packed
@@ -80,53 +45,48 @@ module _ (ls : Lists) where
   -- ---- what is packed is read
   -- each row fits its fields
   abbrev pub Fits : Type 0
-  Fits = (s i : ℕ) → s < 6 → i < count ls s → Fit (widths (kindFor ls s)) (storedRow s i)
+  Fits = (s i : ℕ) → s < 6 → i < count ls s → Fit (widths (kindFor ls s)) (storedRow ls s i)
 
   fit-sections : Fits → (n : ℕ) → n ≤ 6 → FitTable (tabulate (sectionAt v (count ls)) n) (tabulate storedIn n)
-  unfolding tabulate FitTable storedIn
+  unfolding tabulate FitTable
   fit-sections fits zero h = tt
   fit-sections fits (suc n) h =
-      let long = length-tabulate (storedRow n) (count ls n) in
+      let long = length-tabulate (storedRow ls n) (count ls n) in
       fit-more (tabulate (sectionAt v (count ls)) n) (tabulate storedIn n) (sectionAt v (count ls) n) (storedIn n) (fit-sections fits n (omega arith)) long
-      (fit-rows-of (widths (kindFor ls n)) (storedIn n) (λ i l. rw (tabulate-at (storedRow n) (count ls n) i [] (omega arith)) (fits n i h (omega arith))))
+      (fit-rows-of (widths (kindFor ls n)) (storedIn n) (λ i l. rw (tabulate-at (storedRow ls n) (count ls n) i [] (omega arith)) (fits n i h (omega arith))))
 
   pub row-packed : Fits → (s i : ℕ) → s < 6 → i < count ls s
-      → readAll (packed ls) (8 * start v (count ls) s + i * total (widths (kindFor ls s))) (widths (kindFor ls s)) ≡ storedRow s i
-  unfolding packed storedIn
+      → readAll (packed ls) (8 * start v (count ls) s + i * total (widths (kindFor ls s))) (widths (kindFor ls s)) ≡ storedRow ls s i
+  unfolding packed sections parts
   row-packed fits s i h l =
       let zeros : List ℕ = replicate (tableSize ls) 0 in
       let long = length-replicate {A = ℕ} (tableSize ls) 0 in
-      let fit : FitTable (sections ls) (parts ls) = rw (sections-are, parts-are) (fit-sections fits 6 (omega arith)) in
-      let back = table-back zeros 0 (sections ls) (parts ls) (omega (arith, sections-fill)) fit in
-      let same : tabulate (rowsAt (packed ls) v (count ls)) 6 ≡ tabulate storedIn 6 =
-      sym (table-read (packed ls) v (count ls) 6) ∙ ap (readTable (packed ls) 0) (sym sections-are) ∙ back ∙ parts-are in
+      let back = table-back zeros 0 (sections ls) (parts ls) (omega (arith, sections-fill)) (fit-sections fits 6 (omega arith)) in
+      let same : tabulate (rowsAt (packed ls) v (count ls)) 6 ≡ tabulate storedIn 6 = sym (table-read (packed ls) v (count ls) 6) ∙ back in
       let here : rowsAt (packed ls) v (count ls) s ≡ storedIn s =
       sym (tabulate-at (rowsAt (packed ls) v (count ls)) 6 s [] h)
       ∙ ap (λ (r : List (List (List ℕ))). getD r s []) same
       ∙ tabulate-at storedIn 6 s [] h in
       sym (row-at (packed ls) (8 * start v (count ls) s) (widths (kindFor ls s)) (count ls s) i l)
       ∙ ap (λ (r : List (List ℕ)). getD r i []) here
-      ∙ tabulate-at (storedRow s) (count ls s) i [] l
+      ∙ tabulate-at (storedRow ls s) (count ls s) i [] l
 
   -- ---- bytes that have each row as it is stored, and no more, are what is packed
   pub packed-is : (bytes : List ℕ) → Bytes bytes → length bytes ≡ tableSize ls
-      → ((s i : ℕ) → s < 6 → i < count ls s → storedRow s i ≡ readAll bytes (8 * start v (count ls) s + i * total (widths (kindFor ls s))) (widths (kindFor ls s)))
+      → ((s i : ℕ) → s < 6 → i < count ls s → storedRow ls s i ≡ readAll bytes (8 * start v (count ls) s + i * total (widths (kindFor ls s))) (widths (kindFor ls s)))
       → packed ls ≡ bytes
-  unfolding packed storedIn
+  unfolding packed sections parts
   packed-is bytes b n same =
       let part : (s : ℕ) → s < 6 → storedIn s ≡ rowsAt bytes v (count ls) s =
       λ s h.
-      let long = length-tabulate (storedRow s) (count ls s) in
+      let long = length-tabulate (storedRow ls s) (count ls s) in
       ext-getD [] (storedIn s) (rowsAt bytes v (count ls) s) (long ∙ sym (length-rows bytes (8 * start v (count ls) s) (widths (kindFor ls s)) (count ls s)))
       (λ i l.
-      tabulate-at (storedRow s) (count ls s) i [] (omega arith)
+      tabulate-at (storedRow ls s) (count ls s) i [] (omega arith)
       ∙ same s i h (omega arith)
       ∙ sym (row-at bytes (8 * start v (count ls) s) (widths (kindFor ls s)) (count ls s) i (omega arith))) in
       let read : parts ls ≡ readTable bytes 0 (sections ls) =
-      parts-are
-      ∙ tabulate-same storedIn (rowsAt bytes v (count ls)) 6 part
-      ∙ sym (table-read bytes v (count ls) 6)
-      ∙ ap (readTable bytes 0) (sym sections-are) in
+      tabulate-same storedIn (rowsAt bytes v (count ls)) 6 part ∙ sym (table-read bytes v (count ls) 6) in
       let zeros = length-replicate {A = ℕ} (tableSize ls) 0 in
       rw read (table-carried bytes (replicate (tableSize ls) 0) (sections ls) (bytes-zero (tableSize ls)) b (zeros ∙ sym n) (rw n sections-fill))
 
@@ -153,7 +113,7 @@ module _ (ls : Lists) where
         (length-record-given s i h l)
 
     pub length-meant : (s i : ℕ) → s < 6 → i < count ls s → length (meant ls s i) ≡ length (layout (kindFor ls s))
-    unfolding count meant meantRow headerFor
+    unfolding count meant meantRow headerFor tabulate
     length-meant zero i h l = sym (ap (λ (k : ℕ). length (layout k)) (header-kind v) ∙ header-fields)
     length-meant (suc s) i h l =
         let zeros : List ℕ = replicate (length (layout (kindFor ls (suc s))) - listed (suc s)) 0 in

@@ -24,10 +24,14 @@ unfoldable pub rows : List ℕ → ℕ → ℕ
 rows bytes zero = 1
 rows bytes (suc s) = getD (headerRow bytes) (suc s) 0
 
--- the byte where a section begins: sections follow one another; section 6, which is not there, would begin where the table ends
-unfoldable pub from : List ℕ → ℕ → ℕ
-from bytes zero = 0
-from bytes (suc s) = from bytes s + rows bytes s * size (kindIn bytes s)
+-- the byte where a section begins, of a version and of so many rows in each section: sections follow one another; section 6, which is not
+-- there, would begin where the table ends
+unfoldable pub start : ℕ → (ℕ → ℕ) → ℕ → ℕ
+start v count zero = 0
+start v count (suc s) = start v count s + count s * size (kindOf v s)
+
+abbrev pub from : List ℕ → ℕ → ℕ
+from bytes section = start (version bytes) (rows bytes) section
 
 -- "Rows are numbered from 0": the stored numbers of row i of a section
 unfoldable pub row : List ℕ → ℕ → ℕ → List ℕ

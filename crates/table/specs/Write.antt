@@ -1,7 +1,7 @@
 -- 01, Answers by number: "The writer takes its counts from its lists and gives 2 (also for a list that is no whole number of records),
 -- 4 (also for a value wider than its field), 11." And what it leaves in the lent bytes. Assumes nothing.
-use Prim.Native.Nat.{ℕ, zero, suc, _+_, _-_, _*_, _%_}
-use mathlib.Core.Bool.{Bool, _&&_}
+use Prim.Native.Nat.{ℕ, zero, suc, _-_, _*_}
+use mathlib.Core.Bool.{Bool, not}
 use mathlib.Core.List.{List, [], _∷_, _++_}
 use mathlib.Core.Option.{Option, none, some}
 use mathlib.Core.Path.{_≡_}
@@ -9,45 +9,54 @@ use lib.Dec.{leb, eqb}
 use lib.ListN.{length, replicate}
 use Rattle.base.specs.Pick.{pick}
 use Rattle.base.specs.Least.{leastFrom}
+use Rattle.base.specs.Tabulate.{tabulate}
 use Rattle.bits.specs.Rows.{Section, putTable}
 use Rattle.layout.specs.declared.Way.the-variants.{Writing}
 use Rattle.layout.specs.declared.Name.the-variants as name
-use Rattle.layout.specs.Layout.{layout, headerNames, widths, size}
+use Rattle.layout.specs.Layout.{layout, headerNames, widths}
 use Rattle.base.specs.Tests.{isSome, numberOr0}
 use Rattle.layout.specs.Rows.{converted, listed, rowFault}
 use Rattle.table.specs.declared.Answer.{Answer}
 use Rattle.table.specs.declared.Written.{Written}
 use Rattle.table.specs.Answers.{answer, firstGiven}
-use Rattle.table.specs.Sections.{lent}
-use Rattle.table.specs.Lists.{Lists, recordsIn, recordAt, headerAt, kindFor}
+use Rattle.table.specs.Sections.{start, lent}
+use Rattle.table.specs.Lists.{Lists, listFor, recordsIn, recordAt, headerAt, versionFor, kindFor}
 
 -- the header that the lists ask for: the version, the counts, the delays, and padding
 unfoldable pub headerFor : Lists → List ℕ
 headerFor ls =
     headerAt ls name.Version
-    ∷ recordsIn ls 1
-    ∷ recordsIn ls 2
-    ∷ recordsIn ls 3
-    ∷ recordsIn ls 4
-    ∷ recordsIn ls 5
-    ∷ headerAt ls name.SendLeast
+    ∷ tabulate (λ s. recordsIn ls (suc s)) 5
+    ++ (headerAt ls name.SendLeast
     ∷ headerAt ls name.SendGreatest
     ∷ headerAt ls name.ReceiveLeast
     ∷ headerAt ls name.ReceiveGreatest
     ∷ 0
-    ∷ []
+    ∷ [])
 
 -- record i of a section, with padding of zero where it has padding
 unfoldable pub meantRow : Lists → ℕ → ℕ → List ℕ
 meantRow ls section i = recordAt ls section i ++ replicate (length (layout (kindFor ls section)) - listed section) 0
 
--- every list is a whole number of records: five numbers of the header, and for a section a multiple of its numbers (an end
--- system is one number, so any list of them is whole)
+-- by the section: the header is section 0, of one row. How many rows there are, what each means, and how many numbers its list has of it
+unfoldable pub count : Lists → ℕ → ℕ
+count ls zero = 1
+count ls (suc s) = recordsIn ls (suc s)
+
+unfoldable pub meant : Lists → ℕ → ℕ → List ℕ
+meant ls zero i = headerFor ls
+meant ls (suc s) i = meantRow ls (suc s) i
+
+unfoldable pub numbersIn : ℕ → ℕ
+numbersIn zero = length headerNames
+numbersIn (suc s) = listed (suc s)
+
+-- a list is a whole number of records: it has the numbers of its rows and no more; and none of the six is not
+unfoldable pub wholeList : Lists → ℕ → Bool
+wholeList ls section = eqb (length (listFor ls section)) (count ls section * numbersIn section)
+
 unfoldable pub whole : Lists → Bool
-whole ls =
-    eqb (length (ls .header)) (length headerNames)
-    && (eqb (length (ls .vls) % listed 2) 0 && (eqb (length (ls .streams) % listed 3) 0
-    && (eqb (length (ls .ports) % listed 4) 0 && eqb (length (ls .hops) % listed 5) 0)))
+whole ls = not (isSome (leastFrom (λ s. not (wholeList ls s)) 0 6))
 
 -- 2: a list that is no whole number of records, a version, count or delay out of range
 unfoldable pub write2 : Lists → Option Answer
@@ -69,38 +78,19 @@ answerAtRecord ls section i = answer 4 section i (numberOr0 (rowFault Writing (k
 unfoldable pub write4 : Lists → Option Answer
 write4 ls = elim (badList ls) [ none ↦ none | some s ↦ some (answerAtRecord ls s (numberOr0 (badRecord ls s))) ]
 
--- the rows of a section as they are stored
-unfoldable pub storedRows : Lists → ℕ → ℕ → List (List ℕ)
-storedRows ls section zero = []
-storedRows ls section (suc n) = storedRows ls section n ++ (converted Writing (layout (kindFor ls section)) (meantRow ls section n) ∷ [])
+-- a row as it is stored
+abbrev pub storedRow : Lists → ℕ → ℕ → List ℕ
+storedRow ls section i = converted Writing (layout (kindFor ls section)) (meant ls section i)
 
--- the sections of the table: the header's one row, and the rows of each list
-unfoldable pub sectionOf : Lists → ℕ → Section
-sectionOf ls section = record { widths = widths (kindFor ls section); count = recordsIn ls section }
-
+-- the sections of the table, their rows, and the bytes that it takes
 unfoldable pub sections : Lists → List Section
-sections ls =
-    record { widths = widths 0; count = 1 } ∷ sectionOf ls 1 ∷ sectionOf ls 2 ∷ sectionOf ls 3 ∷ sectionOf ls 4 ∷ sectionOf ls 5 ∷ []
+sections ls = tabulate (λ s. record { widths = widths (kindFor ls s); count = count ls s }) 6
 
 unfoldable pub parts : Lists → List (List (List ℕ))
-parts ls =
-    (converted Writing (layout 0) (headerFor ls) ∷ [])
-    ∷ storedRows ls 1 (recordsIn ls 1)
-    ∷ storedRows ls 2 (recordsIn ls 2)
-    ∷ storedRows ls 3 (recordsIn ls 3)
-    ∷ storedRows ls 4 (recordsIn ls 4)
-    ∷ storedRows ls 5 (recordsIn ls 5)
-    ∷ []
+parts ls = tabulate (λ s. tabulate (storedRow ls s) (count ls s)) 6
 
--- the bytes that the table takes
 unfoldable pub tableSize : Lists → ℕ
-tableSize ls =
-    size 0
-    + recordsIn ls 1 * size (kindFor ls 1)
-    + recordsIn ls 2 * size (kindFor ls 2)
-    + recordsIn ls 3 * size (kindFor ls 3)
-    + recordsIn ls 4 * size (kindFor ls 4)
-    + recordsIn ls 5 * size (kindFor ls 5)
+tableSize ls = start (versionFor ls) (count ls) 6
 
 -- the table's bytes
 unfoldable pub packed : Lists → List ℕ

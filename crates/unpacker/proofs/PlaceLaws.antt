@@ -16,7 +16,7 @@ use Rattle.layout.specs.Contracts.{wide}
 use Rattle.layout.proofs.LayoutLaws.{size-most}
 use Rattle.layout.proofs.RowLaws.{wide-at}
 use Rattle.unpacker.specs.declared.examine.Places.{Places}
-use Rattle.table.specs.Sections.{headerRow, version, kindIn, rows, from, row, lent}
+use Rattle.table.specs.Sections.{headerRow, version, kindIn, rows, start, from, row, lent}
 use Rattle.unpacker.specs.Unpacking.{countIn, placesOf, RowPlace}
 use Rattle.table.proofs.LentLaws.{lent-none, lent-at, lent-whole, lent-more}
 use Rattle.table.proofs.SectionLaws.{section-most, from-most}
@@ -85,7 +85,7 @@ module _ (bytes : List ℕ) where
   counts-start = sym (lent-none 6)
 
   pub starts-start : replicate 7 0 ≡ started 0
-  unfolding tabulate from lent
+  unfolding tabulate start lent
   starts-start = refl
 
   pub counts-all : (s : ℕ) → s ≡ 6 → counted s ≡ tabulate (rows bytes) 6
@@ -120,7 +120,7 @@ module _ (bytes : List ℕ) where
       start-now = ap (λ (l : List ℕ). getD l s 0) e ∙ start-at s
 
       pub starts-more : set starts (s + 1) (getD starts s 0 + n * b) ≡ started (s + 1)
-      unfolding tabulate from
+      unfolding tabulate start
       starts-more =
           rw (start-now, e, count-now, bytes-is, add-one s)
           (lent-more 7 (tabulate (from bytes) (suc s)) (suc s) (from bytes (suc s)) (length-tabulate (from bytes) (suc s)) (omega arith))

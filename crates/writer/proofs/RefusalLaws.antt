@@ -1,10 +1,10 @@
 -- The writer's answers: each is a refusal with a number or none, so the first that refuses is the answer; and that to the records goes list by list.
 -- Assumes nothing.
 use mathlib.Core.Path.{_≡_, refl, sym, ap, ap₂, _∙_}
-use mathlib.Core.Bool.{Bool, true, false, _&&_, and-eq-true-iff}
+use mathlib.Core.Bool.{Bool, true, false, _&&_, not}
 use mathlib.Core.List.{List, [], _∷_}
 use mathlib.Core.Option.{Option, none, some}
-use Prim.Native.Nat.{ℕ, suc, _%_, _≤_, _<_}
+use Prim.Native.Nat.{ℕ, suc, _≤_, _<_}
 use native.Mathlib.Omega.{arith}
 use lib.Dec.{leb, eqb}
 use lib.ListN.{length}
@@ -14,13 +14,14 @@ use Rattle.base.specs.Least.{leastFrom}
 use Rattle.layout.specs.declared.Way.the-variants.{Writing}
 use Rattle.base.specs.Tests.{isSome, numberOr0}
 use Rattle.layout.specs.Layout.{headerNames}
-use Rattle.layout.specs.Rows.{listed, rowFault}
+use Rattle.layout.specs.Rows.{rowFault}
 use Rattle.layout.proofs.ToldLaws.{some-told, none-told, number-told}
 use Rattle.table.specs.declared.Answer.{Answer}
 use Rattle.table.specs.Answers.{answer, accepted, firstGiven}
 use Rattle.table.specs.Lists.{Lists, listFor, recordsIn, versionFor}
-use Rattle.table.specs.Write.{headerFor, meantRow, whole, write2, badRecord, badList, answerAtRecord, write4, tableSize, write11, writeAnswer}
+use Rattle.table.specs.Write.{headerFor, meantRow, count, numbersIn, wholeList, whole, write2, badRecord, badList, answerAtRecord, write4, tableSize, write11, writeAnswer}
 use Rattle.table.proofs.FirstLaws.{Refuses, row-refuses}
+use Rattle.table.proofs.AnswerLaws.{whole-was}
 use Rattle.writer.specs.Writing.{given, firstOf, listNumbers, listRow, recordFault, badIn, listAnswer, headerFault, roomAnswer}
 
 -- ---- the first that refuses
@@ -38,6 +39,10 @@ last-of none = refl
 last-of (some a) = refl
 
 -- ---- 2
+and-true : (t : Bool) → (t && true) ≡ t
+and-true true = refl
+and-true false = refl
+
 module _ (ls : Lists) where
   two-refuses : Refuses (write2 ls)
   unfolding write2
@@ -47,13 +52,26 @@ module _ (ls : Lists) where
       go true = row-refuses (rowFault Writing 0 (headerFor ls)) (answer 2 0 0) (λ test. omega arith)
       go false = omega arith
 
+  -- list by list
+  abbrev wholeFrom : ℕ → ℕ → Bool
+  wholeFrom k n = not (isSome (leastFrom (λ s. not (wholeList ls s)) k n))
+
+  one-whole : (k n : ℕ) → wholeFrom k (suc n) ≡ (wholeList ls k && wholeFrom (suc k) n)
+  unfolding leastFrom isSome
+  one-whole k n = go (wholeList ls k)
+    where
+      go : (t : Bool) → not (isSome (elim (not t) [ true ↦ some k | false ↦ leastFrom (λ s. not (wholeList ls s)) (suc k) n ])) ≡ (t && wholeFrom (suc k) n)
+      go true = refl
+      go false = refl
+
+  pub all-whole : whole ls
+      ≡ (wholeList ls 0 && (wholeList ls 1 && (wholeList ls 2 && (wholeList ls 3 && (wholeList ls 4 && wholeList ls 5)))))
+  unfolding whole leastFrom isSome
+  all-whole = one-whole 0 5 ∙ rw (one-whole 1 4, one-whole 2 3, one-whole 3 2, one-whole 4 1, one-whole 5 0, and-true (wholeList ls 5))
+
   pub whole-header : whole ls ≡ true → length (ls .header) ≡ length headerNames
-  unfolding whole
-  whole-header e =
-      let rest =
-      eqb (length (ls .vls) % listed 2) 0
-      && (eqb (length (ls .streams) % listed 3) 0 && (eqb (length (ls .ports) % listed 4) 0 && eqb (length (ls .hops) % listed 5) 0)) in
-      eqb-true (length (ls .header)) (length headerNames) (and-eq-true-iff (eqb (length (ls .header)) (length headerNames)) rest .0 e .0)
+  unfolding count numbersIn listFor
+  whole-header e = omega (arith, whole-was ls e 0 (omega arith))
 
   pub two-whole : whole ls ≡ true → headerFault (rowFault Writing 0 (headerFor ls)) ≡ given (write2 ls)
   unfolding write2 headerFault given

@@ -10,15 +10,15 @@ use layout::Way;
 use layout::sizes::HEADER_LIST;
 use table::Answer;
 ghost use mathlib.Core.Path.{_≡_};
-ghost use Prim.Native.Nat.{_%_, _<_};
-ghost use mathlib.Core.List.{[]};
+ghost use mathlib.Core.Bool.{_&&_};
+ghost use Prim.Native.Nat.{_*_, _<_};
 ghost use lib.Dec.{eqb};
 ghost use lib.ListN.{length};
 ghost use Rattle.layout.specs.Rows.{listed};
 ghost use Rattle.layout.specs.Contracts.{faultOf};
 ghost use Rattle.table.specs.Answers.{accepted};
 ghost use Rattle.table.specs.Write.{whole, write2, writeAnswer};
-ghost use Rattle.writer.specs.Writing.{lists, HasRecord, given, firstOf, recordAnswer, listAnswer, headerFault, roomAnswer};
+ghost use Rattle.writer.specs.Writing.{lists, countIn, HasRecord, given, firstOf, recordAnswer, listAnswer, headerFault, roomAnswer};
 
 fn acceptance() -> Answer
     ensures { λ r. ⌜ r ≡ accepted ⌝ }
@@ -105,28 +105,44 @@ fn records_answer(
 // Whether a list is a whole number of records.
 fn is_whole(list: &[u64], section: usize) -> bool
     requires { ⌜ section < 6 ⌝ }
-    ensures { λ r. ⌜ r ≡ eqb (length (now (list .entry)) % listed section) 0 ⌝ }
+    ensures { λ r. ⌜ r ≡ eqb (length (now (list .entry))) (countIn (now (list .entry)) section * listed section) ⌝ }
 {
-    list.len() % layout::numbers_in(section) == 0
+    list.len() == records_in(list, section) * layout::numbers_in(section)
 }
 
-// Whether every list is; each end system is one number.
-fn all_whole(header: &[u64], vls: &[u64], streams: &[u64], ports: &[u64], hops: &[u64]) -> bool
-    ensures { λ r. ⌜ r ≡ whole (lists (now (header .entry)) [] (now (vls .entry)) (now (streams .entry)) (now (ports .entry)) (now (hops .entry))) ⌝ }
+fn both(a: bool, b: bool) -> bool
+    ensures { λ r. ⌜ r ≡ (a && b) ⌝ }
 {
-    if header.len() != HEADER_LIST {
-        return false;
+    if a {
+        return b;
     }
-    if !is_whole(vls, 2) {
-        return false;
-    }
-    if !is_whole(streams, 3) {
-        return false;
-    }
-    if !is_whole(ports, 4) {
-        return false;
-    }
-    is_whole(hops, 5)
+    false
+}
+
+// Whether every list is; the header's is one record.
+fn all_whole(
+    header: &[u64],
+    systems: &[u64],
+    vls: &[u64],
+    streams: &[u64],
+    ports: &[u64],
+    hops: &[u64],
+) -> bool
+    ensures { λ r. ⌜ r ≡ whole (lists (now (header .entry)) (now (systems .entry)) (now (vls .entry)) (now (streams .entry)) (now (ports .entry)) (now (hops .entry))) ⌝ }
+{
+    both(
+        header.len() == HEADER_LIST,
+        both(
+            is_whole(systems, 1),
+            both(
+                is_whole(vls, 2),
+                both(
+                    is_whole(streams, 3),
+                    both(is_whole(ports, 4), is_whole(hops, 5)),
+                ),
+            ),
+        ),
+    )
 }
 
 fn header_fault(f: Fault) -> Answer
@@ -154,7 +170,7 @@ fn header_answer(
 ) -> Answer
     ensures { λ r. ⌜ r ≡ given (write2 (lists (now (header .entry)) (now (systems .entry)) (now (vls .entry)) (now (streams .entry)) (now (ports .entry)) (now (hops .entry)))) ⌝ }
 {
-    if all_whole(header, vls, streams, ports, hops) {
+    if all_whole(header, systems, vls, streams, ports, hops) {
         let row = header_row(header, systems, vls, streams, ports, hops);
         return header_fault(layout::fault_of(Way::Writing, 0, row));
     }

@@ -16,9 +16,7 @@ use Rattle.writer.proofs.refusals.header_answer.Tie as tie
 abbrev ls : tie.Start → Lists
 ls s = lists (s .args .header .now) (s .args .systems .now) (s .args .vls .now) (s .args .streams .now) (s .args .ports .now) (s .args .hops .now)
 
--- the test does not look at the end systems
 told : (c : tie.After-all-whole) (t : Bool) → c .all-whole .result ≡ t → whole (ls (c .before .before .before .before .before .before .before)) ≡ t
-unfolding whole
 told c t e = sym (c .all-whole .ensures) ∙ e
 
 header-row-requires : tie.Need-header-row-requires

@@ -2,8 +2,8 @@
 -- Assumes nothing.
 use native.Mathlib.Omega.{arith}
 use Rattle.layout.proofs.LayoutLaws.{size-most}
-use Rattle.table.specs.Lists.{listFor, recordsIn}
-use Rattle.table.specs.Write.{tableSize}
+use Rattle.writer.specs.Writing.{lists}
+use Rattle.writer.proofs.StageLaws.{ends}
 use borrow.Author.Needs.{needs}
 use Rattle.writer.proofs.source.table_bytes.Statement.{statement}
 use Rattle.writer.proofs.source.table_bytes.Tie as tie
@@ -24,8 +24,8 @@ add-result-5 : tie.Need-add-result-5
 add-result-5 c = omega (arith, size-most 0)
 
 returns : tie.Need-returns
-unfolding tableSize recordsIn listFor
 returns c =
+    let a = c .before .before .before .before .before .before .before .before .before .before .before .before .before .args in
     rw (
       c .before .before .before .before .before .bytes-in .ensures,
       c .before .before .before .before .section-bytes .ensures .0,
@@ -35,6 +35,7 @@ returns c =
       c .section-bytes5 .ensures .0,
       c .before .before .before .before .before .before .version-of .ensures,
     )
+    (ends (lists (a .header .now) (a .systems .now) (a .vls .now) (a .streams .now) (a .ports .now) (a .hops .now)))
 
 pub table-bytes-spec : {M : Type 1} → statement M
 table-bytes-spec =
