@@ -60,7 +60,8 @@ module _ (ls : Lists) where
   unfolding leastFrom isSome
   one-whole k n = go (wholeList ls k)
     where
-      go : (t : Bool) → not (isSome (elim (not t) [ true ↦ some k | false ↦ leastFrom (λ s. not (wholeList ls s)) (suc k) n ])) ≡ (t && wholeFrom (suc k) n)
+      go : (t : Bool) → not (isSome (elim (not t) [ true ↦ some k | false ↦ leastFrom (λ s. not (wholeList ls s)) (suc k) n ]))
+          ≡ (t && wholeFrom (suc k) n)
       go true = refl
       go false = refl
 

@@ -19,7 +19,7 @@ use Rattle.table.specs.Lists.{Lists, listFor, recordsIn, versionFor, kindFor}
 use Rattle.table.specs.Write.{headerFor, meantRow, count, meant, storedRow, sections, parts, tableSize, packed}
 use Rattle.table.proofs.SectionLaws.{sectionAt}
 use Rattle.table.proofs.HeaderLaws.{counts-short}
-use Rattle.writer.specs.Writing.{listNumbers, listRow, listStored, listRows, withList, listEnd, earlyEnd, earlyPut, lateEnd, latePut}
+use Rattle.writer.specs.Writing.{listNumbers, listRow, listStored, listRows, withList, listEnd, listsEnd, listsPut}
 
 -- ---- how many bytes
 module _ (ls : Lists) where
@@ -27,7 +27,7 @@ module _ (ls : Lists) where
   v = versionFor ls
 
   -- the last list ends where the table does
-  pub ends : lateEnd v (ls .streams) (ls .ports) (ls .hops) (earlyEnd v (ls .systems) (ls .vls) (size 0)) ≡ tableSize ls
+  pub ends : listsEnd v (ls .systems) (ls .vls) (ls .streams) (ls .ports) (ls .hops) (size 0) ≡ tableSize ls
   unfolding tableSize start count recordsIn listFor
   ends = omega (arith, ap size (header-kind v))
 
@@ -46,14 +46,17 @@ module _ (ls : Lists) where
   unfolding count recordsIn meant meantRow listRows listStored listRow listNumbers
   section-step s u at xs ps = table-step u _ (8 * at) _ _ xs _ ps refl (place at (recordsIn ls (suc s)) (kindFor ls (suc s)))
 
-  header-step : (u head : List ℕ) (xs : List Section) (ps : List (List (List ℕ))) → head ≡ putAll u 0 (widths 0) (converted Writing (layout 0) (headerFor ls))
+  header-step : (u head : List ℕ) (xs : List Section) (ps : List (List (List ℕ)))
+      → head ≡ putAll u 0 (widths 0) (converted Writing (layout 0) (headerFor ls))
       → putTable u 0 (sectionAt v (count ls) 0 ∷ xs) (tabulate (storedRow ls 0) (count ls 0) ∷ ps) ≡ putTable head (8 * size 0) xs ps
   unfolding count meant tabulate
-  header-step u head xs ps put = rw (header-kind v) (table-step u head 0 (8 * size 0) _ xs _ ps (put ∙ sym (rows-one u 0 (widths 0) _)) (omega (arith, whole-bytes 0)))
+  header-step u head xs ps put =
+      let row = put ∙ sym (rows-one u 0 (widths 0) (converted Writing (layout 0) (headerFor ls))) in
+      rw (header-kind v) (table-step u head 0 (8 * size 0) _ xs _ ps row (omega (arith, whole-bytes 0)))
 
   -- ---- all sections
   pub staged : (zeros head : List ℕ) → zeros ≡ replicate (tableSize ls) 0 → head ≡ putAll zeros 0 (widths 0) (converted Writing (layout 0) (headerFor ls))
-      → latePut v (ls .streams) (ls .ports) (ls .hops) (earlyEnd v (ls .systems) (ls .vls) (size 0)) (earlyPut v (ls .systems) (ls .vls) (size 0) head) ≡ packed ls
+      → listsPut v (ls .systems) (ls .vls) (ls .streams) (ls .ports) (ls .hops) (size 0) head ≡ packed ls
   unfolding packed sections parts tabulate listFor
   staged zeros head clear put =
       sym

@@ -103,21 +103,18 @@ withList v list section at out = putRows out (8 * at) (widths (kindOf v section)
 abbrev pub listEnd : ℕ → List ℕ → ℕ → ℕ → ℕ
 listEnd v list section at = at + countIn list section * size (kindOf v section)
 
--- end systems and VLs
-abbrev pub earlyEnd : ℕ → List ℕ → List ℕ → ℕ → ℕ
-earlyEnd v systems vls at = listEnd v vls 2 (listEnd v systems 1 at)
+-- all lists, one after the other
+abbrev pub listsEnd : ℕ → (systems vls streams ports hops : List ℕ) → ℕ → ℕ
+listsEnd v systems vls streams ports hops at =
+    listEnd v hops 5 (listEnd v ports 4 (listEnd v streams 3 (listEnd v vls 2 (listEnd v systems 1 at))))
 
-abbrev pub earlyPut : ℕ → List ℕ → List ℕ → ℕ → List ℕ → List ℕ
-earlyPut v systems vls at out = withList v vls 2 (listEnd v systems 1 at) (withList v systems 1 at out)
-
--- streams, ports and hops
-abbrev pub lateEnd : ℕ → List ℕ → List ℕ → List ℕ → ℕ → ℕ
-lateEnd v streams ports hops at = listEnd v hops 5 (listEnd v ports 4 (listEnd v streams 3 at))
-
-abbrev pub latePut : ℕ → List ℕ → List ℕ → List ℕ → ℕ → List ℕ → List ℕ
-latePut v streams ports hops at out =
-    withList v hops 5 (listEnd v ports 4 (listEnd v streams 3 at))
-    (withList v ports 4 (listEnd v streams 3 at) (withList v streams 3 at out))
+abbrev pub listsPut : ℕ → (systems vls streams ports hops : List ℕ) → ℕ → List ℕ → List ℕ
+listsPut v systems vls streams ports hops at out =
+    let b = listEnd v systems 1 at in
+    let c = listEnd v vls 2 b in
+    let d = listEnd v streams 3 c in
+    let e = listEnd v ports 4 d in
+    withList v hops 5 e (withList v ports 4 d (withList v streams 3 c (withList v vls 2 b (withList v systems 1 at out))))
 
 -- the header's list is whole, and the bytes are the table's, cleared, and short
 pub record Fillable (ls : Lists) (out : List ℕ) : Type 0 where

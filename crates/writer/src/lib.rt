@@ -19,7 +19,7 @@ ghost use Rattle.layout.specs.declared.Way.the-variants.{Writing};
 ghost use Rattle.layout.specs.Layout.{layout, headerNames, kindOf, widths, size};
 ghost use Rattle.layout.specs.Rows.{converted};
 ghost use Rattle.table.specs.Write.{headerFor, packed, Writes};
-ghost use Rattle.writer.specs.Writing.{lists, countIn, listStored, HasRecord, HasRoom, Behind, listEnd, withList, earlyEnd, earlyPut, lateEnd, latePut, Fillable};
+ghost use Rattle.writer.specs.Writing.{lists, countIn, listStored, HasRecord, HasRoom, Behind, listEnd, withList, listsEnd, listsPut, Fillable};
 
 // Makes every byte 0.
 pub fn clear(out: &mut [u8])
@@ -77,23 +77,25 @@ fn put_header(
     layout::bytes_in(0)
 }
 
-// Puts the end systems and the VLs from byte `at` on, and says where they end.
-fn put_early(version: u64, systems: &[u64], vls: &[u64], at: usize, out: &mut [u8]) -> usize
-    requires { ⌜ Behind (now out) (earlyEnd version (now systems) (now vls) at) ⌝ }
-    ensures { λ r. ⌜ (r ≡ earlyEnd version (now (systems .entry)) (now (vls .entry)) at) × (now (out .exit) ≡ earlyPut version (now (systems .entry)) (now (vls .entry)) at (now (out .entry))) ⌝ }
+// Puts the records of all lists from byte `at` on.
+fn put_lists(
+    version: u64,
+    systems: &[u64],
+    vls: &[u64],
+    streams: &[u64],
+    ports: &[u64],
+    hops: &[u64],
+    at: usize,
+    out: &mut [u8],
+)
+    requires { ⌜ Behind (now out) (listsEnd version (now systems) (now vls) (now streams) (now ports) (now hops) at) ⌝ }
+    ensures { λ _. ⌜ now (out .exit) ≡ listsPut version (now (systems .entry)) (now (vls .entry)) (now (streams .entry)) (now (ports .entry)) (now (hops .entry)) at (now (out .entry)) ⌝ }
 {
-    let next = put_section(systems, version, 1, at, out);
-    put_section(vls, version, 2, next, out)
-}
-
-// Puts the streams, the ports and the hops from byte `at` on.
-fn put_late(version: u64, streams: &[u64], ports: &[u64], hops: &[u64], at: usize, out: &mut [u8])
-    requires { ⌜ Behind (now out) (lateEnd version (now streams) (now ports) (now hops) at) ⌝ }
-    ensures { λ _. ⌜ now (out .exit) ≡ latePut version (now (streams .entry)) (now (ports .entry)) (now (hops .entry)) at (now (out .entry)) ⌝ }
-{
-    let next = put_section(streams, version, 3, at, out);
-    let last = put_section(ports, version, 4, next, out);
-    put_section(hops, version, 5, last, out);
+    let b = put_section(systems, version, 1, at, out);
+    let c = put_section(vls, version, 2, b, out);
+    let d = put_section(streams, version, 3, c, out);
+    let e = put_section(ports, version, 4, d, out);
+    put_section(hops, version, 5, e, out);
 }
 
 // Puts the whole table into cleared bytes, as many as it takes.
@@ -110,9 +112,8 @@ fn fill(
     ensures { λ _. ⌜ now (out .exit) ≡ packed (lists (now (header .entry)) (now (systems .entry)) (now (vls .entry)) (now (streams .entry)) (now (ports .entry)) (now (hops .entry))) ⌝ }
 {
     let version = version_of(header);
-    let a = put_header(header, systems, vls, streams, ports, hops, out);
-    let b = put_early(version, systems, vls, a, out);
-    put_late(version, streams, ports, hops, b, out);
+    let at = put_header(header, systems, vls, streams, ports, hops, out);
+    put_lists(version, systems, vls, streams, ports, hops, at, out);
 }
 
 // The table of the lists: the header's has the version and the delays.

@@ -12,18 +12,19 @@ use Rattle.writer.proofs.refusals.all_whole.Tie as tie
 returns : tie.Need-returns
 unfolding wholeList count numbersIn listFor recordsIn
 returns c =
-    let a = c .before .before .before .before .before .before .before .before .before .before .before .before .before .before .before .before .args in
+    let asked = c .before .before .before .before .before in
+    let a = asked .before .before .before .before .before .before .before .before .before .before .before .args in
     rw (
       c .both5 .ensures,
       c .before .both4 .ensures,
       c .before .before .both3 .ensures,
       c .before .before .before .both2 .ensures,
       c .before .before .before .before .both .ensures,
-      c .before .before .before .before .before .before .before .before .before .is-whole .ensures,
-      c .before .before .before .before .before .before .before .before .is-whole2 .ensures,
-      c .before .before .before .before .before .before .before .is-whole3 .ensures,
-      c .before .before .before .before .before .before .is-whole4 .ensures,
-      c .before .before .before .before .before .is-whole5 .ensures,
+      asked .before .before .before .before .is-whole .ensures,
+      asked .before .before .before .is-whole2 .ensures,
+      asked .before .before .is-whole3 .ensures,
+      asked .before .is-whole4 .ensures,
+      asked .is-whole5 .ensures,
     )
     (sym (all-whole (lists (a .header .now) (a .systems .now) (a .vls .now) (a .streams .now) (a .ports .now) (a .hops .now))))
 

@@ -13,7 +13,8 @@ use Rattle.writer.proofs.refusals.is_whole.Tie as tie
 mul-result : tie.Need-mul-result
 mul-result c =
     let a = c .before .before .before .args in
-    omega (arith, ap₂ _*_ (c .before .records-in .ensures) (c .numbers-in .ensures), div-mul-le-self (length (a .list .now)) (listed (a .section)))
+    let same = ap₂ _*_ (c .before .records-in .ensures) (c .numbers-in .ensures) in
+    omega (arith, same, div-mul-le-self (length (a .list .now)) (listed (a .section)))
 
 returns : tie.Need-returns
 returns c = rw (c .before .records-in .ensures, c .numbers-in .ensures)
