@@ -1,8 +1,8 @@
 #!/bin/sh
 # Tests everything: docs/CLAIMS.md names what is there, and docs/TABLE.md has the fields that run_fields prints; rt ci proves every crate
 # from nothing, tries the must-fail edits, runs the programs and compares; then the independent implementation still gives the committed
-# answers, the suppliers' archives link and run, and the front command does what it says. Where all of it passed, the last line is rt ci's
-# last line again, 'N passed, 0 failed'.
+# answers and agrees with pack and unpack on many texts, the suppliers' archives link and run, and the front command does what it says.
+# Where all of it passed, the last line is rt ci's last line again, 'N passed, 0 failed'.
 set -eu
 unset CDPATH
 cd -- "$(dirname -- "$0")"
