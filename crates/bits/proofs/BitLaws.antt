@@ -7,9 +7,9 @@ use Prim.Native.Nat.{ℕ, _-_, _*_, _/_, _%_, _<_}
 use native.Mathlib.Decide.{decLt, ℕ-discrete}
 use native.Mathlib.Omega.{arith}
 use lib.ListN.{length, getD, length-set}
-use lib.Seq.{getD-set-same, getD-set-other, set-getD}
+use lib.Seq.{getD-set-same, getD-set-other}
 use Rattle.bits.specs.Bits.{Bytes, digit, withDigit, bitAt, putBit}
-use Rattle.bits.proofs.Digits.{digit-same, digit-below, digit-above, digit-again, digit-lt}
+use Rattle.bits.proofs.Digits.{digit-same, digit-below, digit-above, digit-lt}
 
 pub bit-lt : (s : List ℕ) (i : ℕ) → bitAt s i < 2
 unfolding bitAt digit
@@ -52,8 +52,3 @@ module _ (s : List ℕ) (i b : ℕ) (h : i < 8 * length s) (hb : b < 2) where
       go : Dec (k ≡ i / 8) → getD (putBit s i b) k 0 < 256
       go (yes e) = rw (e, getD-set-same s (i / 8) _ 0 here) (digit-lt 8 (getD s (i / 8) 0) (7 - i % 8) b hb (omega arith) (bs (i / 8)))
       go (no n) = rw (getD-set-other s (i / 8) k _ 0 n) (bs k)
-
--- the bit that was there, put again
-pub bit-again : (s : List ℕ) (i : ℕ) → putBit s i (bitAt s i) ≡ s
-unfolding bitAt putBit
-bit-again s i = rw (digit-again (getD s (i / 8) 0) (7 - i % 8)) (set-getD s (i / 8) 0)

@@ -5,7 +5,7 @@ use Prim.Native.Nat.{ℕ, suc, _+_, _-_, _*_, _/_, _%_, _^_, _<_}
 use native.Mathlib.Nat.{mod-lt}
 use native.Mathlib.Omega.{arith}
 use lib.Arith.{digits-lt}
-use lib.Pow.{pow-pos, pow-add, high, low, split, shr-shr, shr-lt, field, mod-mod-pow}
+use lib.Pow.{pow-pos, pow-add, high, low, shr-shr, shr-lt, field, mod-mod-pow}
 use Rattle.bits.specs.Bits.{digit, withDigit}
 
 -- the upper digits, and the lower
@@ -43,11 +43,6 @@ digit-above x p b q hb h =
     let u = upper x p b in
     let e : withDigit x p b / 2 ^ p / 2 ≡ x / 2 ^ p / 2 = omega arith in
     rw (← in-upper (withDigit x p b) p q h, e, in-upper x p q h)
-
--- the digit that was there, put again
-pub digit-again : (x p : ℕ) → withDigit x p (digit x p) ≡ x
-unfolding digit withDigit
-digit-again x p = ap (λ (y : ℕ). y * 2 ^ p + x % 2 ^ p) (omega arith) ∙ split x p
 
 pub digit-lt : (n x p b : ℕ) → b < 2 → p < n → x < 2 ^ n → withDigit x p b < 2 ^ n
 unfolding withDigit

@@ -1,4 +1,4 @@
--- Fields, from the last bit on: what is written is read, nothing else changes, and what was read, written again, changes nothing.
+-- Fields, from the last bit on: what is written is read, and nothing else changes.
 -- Assumes nothing.
 use mathlib.Core.Path.{_≡_, refl, ap₂, _∙_}
 use mathlib.Core.List.{List}
@@ -10,7 +10,7 @@ use native.Mathlib.Omega.{arith}
 use lib.ListN.{length}
 use lib.Pow.{shr-shr}
 use Rattle.bits.specs.Bits.{Bytes, bitAt, putBit, fieldAt, putAt}
-use Rattle.bits.proofs.BitLaws.{bit-lt, length-bit, bit-same, bit-other, bytes-bit, bit-again}
+use Rattle.bits.proofs.BitLaws.{bit-lt, length-bit, bit-same, bit-other, bytes-bit}
 
 -- ---- what a field is
 pub field-lt : (s : List ℕ) (a w : ℕ) → fieldAt s a w < 2 ^ w
@@ -83,16 +83,6 @@ bit-carried z t a (suc w) i h l m =
     go : (i < a + w → bitAt s i ≡ bitAt t i) → Dec (i ≡ a + w) → bitAt (putBit s (a + w) (bitAt t (a + w))) i ≡ bitAt t i
     go rest (yes e) = rw e (bit-same s (a + w) (bitAt t (a + w)) room (bit-lt t (a + w)))
     go rest (no d) = bit-other s (a + w) (bitAt t (a + w)) room (bit-lt t (a + w)) i d ∙ rest (omega arith)
-
--- what was read, written again where it stood, changes nothing
-pub put-again : (s : List ℕ) (a w : ℕ) → putAt s a w (fieldAt s a w) ≡ s
-unfolding putAt fieldAt
-put-again s a zero = refl
-put-again s a (suc w) =
-    let b = bit-lt s (a + w) in
-    let high : (fieldAt s a w * 2 + bitAt s (a + w)) / 2 ≡ fieldAt s a w = omega arith in
-    let low : (fieldAt s a w * 2 + bitAt s (a + w)) % 2 ≡ bitAt s (a + w) = omega arith in
-    rw (high, low, put-again s a w) (bit-again s (a + w))
 
 -- a turn of the writer: the first i bits of a field of w bits, and then the next
 pub put-step : (s : List ℕ) (a v w i : ℕ) → i < w

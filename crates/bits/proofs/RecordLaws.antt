@@ -12,7 +12,7 @@ use Rattle.bits.specs.Bits.{Bytes, bitAt, fieldAt, putAt}
 use Rattle.base.specs.Tabulate.{total}
 use Rattle.bits.specs.Rows.{readAll, putAll}
 use Rattle.bits.specs.Tables.{Fit}
-use Rattle.bits.proofs.FieldLaws.{field-lt, field-moved, field-by-bits, length-put, bytes-put, bit-outside, field-same, put-again}
+use Rattle.bits.proofs.FieldLaws.{field-lt, field-moved, field-by-bits, length-put, bytes-put, bit-outside, field-same}
 use Rattle.bits.proofs.ByteLaws.{bit-part}
 
 -- ---- how many bits
@@ -138,9 +138,3 @@ read-back s a (w ∷ ws) (v ∷ vs) h f =
     ap₂ _∷_
     (field-by-bits (putAll t (a + w) ws vs) t a w (λ i p q. before t (a + w) ws vs i (omega arith) q) ∙ field-same s a w v (omega arith) (f .0))
     (read-back t (a + w) ws vs (omega arith) (f .1))
-
--- what is read, written again where it stood, changes nothing
-pub put-back : (s : List ℕ) (a : ℕ) (ws : List ℕ) → putAll s a ws (readAll s a ws) ≡ s
-unfolding readAll putAll
-put-back s a [] = refl
-put-back s a (w ∷ ws) = rw (put-again s a w) (put-back s (a + w) ws)

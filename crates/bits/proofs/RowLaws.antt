@@ -10,7 +10,7 @@ use Rattle.bits.specs.Bits.{bitAt}
 use Rattle.base.specs.Tabulate.{total}
 use Rattle.bits.specs.Rows.{readAll, putAll, putRows}
 use Rattle.bits.specs.Tables.{Fit, readRows, FitRows}
-use Rattle.bits.proofs.RecordLaws.{fit-read, read-by-bits, length-put-all, outside, read-back}
+use Rattle.bits.proofs.RecordLaws.{read-by-bits, length-put-all, outside, read-back}
 
 -- ---- the rows one by one
 -- where the first row stands, and where row i of those that begin one row on
@@ -48,12 +48,6 @@ put-rows-more s a ws (r ∷ rows) row =
     let t = putAll s a ws r in
     put-rows-more t (a + total ws) ws rows row
     ∙ ap (λ (b : ℕ). putAll (putRows t (a + total ws) ws rows) b ws row) (on a (total ws) (length rows))
-
--- what is read fits
-pub fit-rows : (s : List ℕ) (a : ℕ) (ws : List ℕ) (n : ℕ) → FitRows ws (readRows s a ws n)
-unfolding readRows FitRows
-fit-rows s a ws zero = tt
-fit-rows s a ws (suc n) = (fit-read s a ws, fit-rows s (a + total ws) ws n)
 
 -- rows fit where each does
 pub fit-rows-of : (ws : List ℕ) (rows : List (List ℕ)) → ((i : ℕ) → i < length rows → Fit ws (getD rows i [])) → FitRows ws rows
