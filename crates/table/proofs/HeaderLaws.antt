@@ -3,8 +3,7 @@
 use mathlib.Core.Path.{_≡_, refl, sym, ap, _∙_}
 use mathlib.Core.List.{List, [], _∷_, map}
 use mathlib.Core.Option.{none}
-use Prim.Native.Nat.{ℕ, zero, suc, _*_, _^_, _≤_, _<_}
-use native.Mathlib.Nat.{mul-le-mul}
+use Prim.Native.Nat.{ℕ, zero, suc, _^_, _≤_, _<_}
 use native.Mathlib.Decide.{decLt}
 use native.Mathlib.Omega.{arith}
 use lib.Dec.{leb, leb→le}
@@ -18,10 +17,10 @@ use Rattle.bits.proofs.PartLaws.{fit-at}
 use Rattle.bits.proofs.RecordLaws.{read-part}
 use Rattle.layout.specs.declared.Way.{Way}
 use Rattle.layout.specs.declared.Way.the-variants.{Reading, Writing}
-use Rattle.layout.specs.Layout.{layoutIn, layout, kindOf, headerNames, widths, size}
+use Rattle.layout.specs.Layout.{layoutIn, layout, headerNames, widths, size}
 use Rattle.layout.specs.Names.{numberOf, indexIn}
 use Rattle.layout.specs.Rows.{rowAt, named, converted, rowFault}
-use Rattle.layout.proofs.LayoutLaws.{header-fields, header-listed, header-kind, length-widths, whole-bytes, size-most}
+use Rattle.layout.proofs.LayoutLaws.{header-fields, header-listed, header-kind, length-widths, whole-bytes}
 use Rattle.layout.proofs.RowLaws.{length-converted}
 use Rattle.layout.proofs.FaultLaws.{faultless}
 use Rattle.layout.proofs.BackLaws.{isNumber, numberAt, same-number}
@@ -29,7 +28,7 @@ use Rattle.layout.proofs.RoomLaws.{room-yes, row-there}
 use Rattle.table.specs.Sections.{headerRow, version, rows, start, from, row}
 use Rattle.table.specs.Lists.{Lists, recordsIn, versionFor, headerOf, unpacked}
 use Rattle.table.specs.Write.{headerFor, count}
-use Rattle.table.proofs.SectionLaws.{padding-at, from-most}
+use Rattle.table.proofs.SectionLaws.{padding-at, start-most, from-most}
 
 -- ---- the numbers
 -- either way they stay what they are
@@ -128,13 +127,6 @@ module _ (ls : Lists) where
 few-bits : (s : ℕ) → s < 6 → 2 ^ getD (widths 0) s 0 ≤ 4096
 unfolding widths layoutIn
 few-bits s h = leb→le _ _ (at (λ k. leb (2 ^ getD (widths 0) k 0) 4096) 6 tt s h)
-
-start-most : (v : ℕ) (f : ℕ → ℕ) (n : ℕ) → ((s : ℕ) → s < n → f s ≤ 4096) → start v f n ≤ n * 57344
-unfolding start
-start-most v f zero h = omega arith
-start-most v f (suc n) h =
-    let least = mul-le-mul (h n (omega arith)) (size-most (kindOf v n)) in
-    omega (arith, start-most v f n (λ s l. h s (omega arith)))
 
 pub counts-short : (ls : Lists) → Fit (widths 0) (converted Writing (layout 0) (headerFor ls)) → rowFault Writing 0 (headerFor ls) ≡ none
     → start (versionFor ls) (count ls) 6 ≤ 2 ^ 32

@@ -82,6 +82,16 @@ start-le v count s (suc t) h = ⊎-elim
     (λ (l : s < suc t). omega (arith, start-le v count s t (le-of-suc-le-suc l)))
     (eq-or-lt-of-le h)
 
+-- where no section has more rows than 12 bits count, each takes few bytes
+pub section-most : (kind n : ℕ) → n ≤ 4096 → n * size kind ≤ 57344
+section-most kind n h = mul-le-mul h (size-most kind)
+
+pub start-most : (v : ℕ) (count : ℕ → ℕ) (n : ℕ) → ((s : ℕ) → s < n → count s ≤ 4096) → start v count n ≤ n * 57344
+unfolding start
+start-most v count zero h = omega arith
+start-most v count (suc n) h =
+    omega (arith, section-most (kindOf v n) (count n) (h n (omega arith)), start-most v count n (λ s l. h s (omega arith)))
+
 pub bits-are : (v : ℕ) (count : ℕ → ℕ) (n : ℕ) → tableBits (tabulate (sectionAt v count) n) ≡ 8 * start v count n
 unfolding start tableBits tabulate sectionBits
 bits-are v count zero = refl
@@ -107,15 +117,8 @@ module _ (bytes : List ℕ) where
   rows-few zero h = omega arith
   rows-few (suc s) h = count-lt (take (size 0) bytes) 0 (suc s) h
 
-  pub section-most : (s : ℕ) → s < 6 → rows bytes s * size (kindIn bytes s) ≤ 57344
-  section-most s h =
-      let few = rows-few s h in
-      mul-le-mul {n₁ = rows bytes s} {n₂ = 4096} (omega arith) (size-most (kindIn bytes s))
-
   pub from-most : (s : ℕ) → s ≤ 6 → from bytes s ≤ s * 57344
-  unfolding start
-  from-most zero h = omega arith
-  from-most (suc s) h = omega (arith, from-most s (omega arith), section-most s h)
+  from-most s h = start-most (version bytes) (rows bytes) s (λ j l. omega (arith, rows-few j (omega arith)))
 
   -- ---- a row that is there
   pub row-read : from bytes 6 ≤ length bytes → length bytes ≤ 2 ^ 32 → (s i : ℕ) → s < 6 → i < rows bytes s

@@ -15,7 +15,7 @@ use Rattle.layout.specs.Contracts.{wide}
 use Rattle.layout.specs.Rows.{named, converted, listed}
 use Rattle.layout.proofs.LayoutLaws.{listed-fields, listed-same, few-fields, listed-most}
 use Rattle.layout.proofs.ReadLaws.{part-wide}
-use Rattle.layout.proofs.RowLaws.{wide-at, length-wide, take-wide, length-converted, converted-wide}
+use Rattle.layout.proofs.RowLaws.{wide-at, length-wide, length-converted, converted-wide}
 use Rattle.table.specs.Sections.{headerRow, version, kindIn, row, recordOf, records, lent}
 use Rattle.table.specs.Lists.{headerOf}
 use Rattle.unpacker.specs.Unpacking.{Filling, Adding, written, headerIn}
@@ -102,28 +102,21 @@ module _ (bytes : List ℕ) (s : ℕ) where
         (ap length e ∙ length-lent (length out) (records bytes s (i + 1)) (omega (arith, room, length-records bytes s (i + 1))) ∙ same, rw (← same) e)
 
 -- ---- the header's numbers
-pub header-put : (header vs out : List ℕ) (n : ℕ) → out ≡ replicate n 0 → vs ≡ wide (headerIn header) → length headerNames ≤ n
+pub header-put : (header vs out : List ℕ) (n : ℕ) → out ≡ replicate n 0 → vs ≡ headerIn header → length headerNames ≤ n
     → written out 0 vs (length headerNames) ≡ lent n (headerIn header)
 unfolding headerIn
 header-put header vs out n z e h =
-    let numbers = headerIn header in
-    let w = length-wide numbers (omega arith) in
-    rw (z, e, ← (lent-none n)) (written-lent n [] 0 (wide numbers) (length headerNames) refl (omega arith) (omega arith) ∙ ap (lent n) (take-wide numbers))
+    rw (z, e, ← (lent-none n)) (written-lent n [] 0 (headerIn header) (length headerNames) refl (omega arith) (omega arith))
 
 -- of the table's own header row
-pub header-in : (bytes : List ℕ) → headerIn (wide (headerRow bytes)) ≡ headerOf bytes
+pub header-in : (bytes header : List ℕ) → header ≡ wide (headerRow bytes) → headerIn header ≡ headerOf bytes
 unfolding headerIn headerOf
-header-in bytes = rw (converted-wide Reading (layout 0) (headerRow bytes))
+header-in bytes header is = rw (is, converted-wide Reading (layout 0) (headerRow bytes))
 
--- as an array: the numbers of the converted row at their places, and zeros
-pub header-wide : (header row : List ℕ) → row ≡ wide (converted Reading (layout 0) header)
-    → getD row 0 0 ∷ getD row 6 0 ∷ getD row 7 0 ∷ getD row 8 0 ∷ getD row 9 0 ∷ 0 ∷ 0 ∷ 0 ∷ 0 ∷ 0 ∷ 0 ∷ [] ≡ wide (headerIn header)
-unfolding headerIn wide named indexIn numberOf layoutIn
-header-wide header row e =
+-- of the converted row: they stand at their places
+pub header-five : (header row : List ℕ) → row ≡ wide (converted Reading (layout 0) header)
+    → getD row 0 0 ∷ getD row 6 0 ∷ getD row 7 0 ∷ getD row 8 0 ∷ getD row 9 0 ∷ [] ≡ headerIn header
+unfolding headerIn named indexIn numberOf layoutIn
+header-five header row e =
     let number : (k : ℕ) → getD row k 0 ≡ getD (converted Reading (layout 0) header) k 0 = λ k. ap (λ (r : List ℕ). getD r k 0) e ∙ wide-at (converted Reading (layout 0) header) k in
-    λ i. number 0 i ∷ number 6 i ∷ number 7 i ∷ number 8 i ∷ number 9 i ∷ 0 ∷ 0 ∷ 0 ∷ 0 ∷ 0 ∷ 0 ∷ []
-
-pub header-five : (bytes header row : List ℕ) → header ≡ wide (headerRow bytes) → row ≡ wide (headerIn header)
-    → getD row 0 0 ∷ getD row 1 0 ∷ getD row 2 0 ∷ getD row 3 0 ∷ getD row 4 0 ∷ [] ≡ headerOf bytes
-unfolding wide headerIn
-header-five bytes header row h e = rw (e, h) (header-in bytes)
+    λ i. number 0 i ∷ number 6 i ∷ number 7 i ∷ number 8 i ∷ number 9 i ∷ []

@@ -1,21 +1,20 @@
 -- One section by itself: how many records of it a list takes, so that they fit.
 -- Assumes nothing.
-use Prim.Native.Nat.{ℕ, _*_, _/_, _≤_, _<_, min}
+use Prim.Native.Nat.{ℕ, _/_, _≤_, _<_, min}
 use mathlib.Core.List.{List}
 use mathlib.Core.Logic.{_⊎_}
 use mathlib.Core.Path.{_≡_, sym, _∙_}
 use native.Mathlib.Nat.{le-div-iff-mul-le}
 use native.Mathlib.Omega.{arith}
-use lib.ListN.{getD, replicate}
+use lib.ListN.{replicate}
 use Rattle.base.proofs.Tests.{within-yes, within-not}
 use Rattle.layout.specs.Rows.{listed}
-use Rattle.table.specs.Sections.{rows, records, lent}
+use Rattle.layout.specs.Contracts.{wide}
+use Rattle.table.specs.Sections.{headerRow, records, lent}
 use Rattle.table.proofs.LentLaws.{lent-none}
-use Rattle.table.proofs.SectionLaws.{rows-few}
 use Rattle.layout.proofs.LayoutLaws.{listed-some}
-use Rattle.unpacker.specs.declared.examine.Places.{Places}
-use Rattle.unpacker.specs.Unpacking.{placesOf, fitting, Filling}
-use Rattle.unpacker.proofs.PlaceLaws.{version-there, count-there, start-there}
+use Rattle.unpacker.specs.Unpacking.{versionOf, countIn, startIn, fitting, Filling}
+use Rattle.unpacker.proofs.PlaceLaws.{version-is, count-is, few-rows, start-is}
 
 module _ (bytes : List ℕ) (s : ℕ) where
   -- ---- no such section
@@ -24,21 +23,20 @@ module _ (bytes : List ℕ) (s : ℕ) where
   nothing-fits n out h e = rw (within-not 1 5 s h) (e ∙ sym (lent-none n))
 
   -- ---- as many as fit
-  module _ (low : 1 ≤ s) (high : s ≤ 5) (p : Places) (is : p ≡ placesOf bytes) (m room r : ℕ) (numbers : m ≡ listed s) (e : r ≡ min (getD (p .counts) s 0) (room / m)) where
+  module _ (low : 1 ≤ s) (high : s ≤ 5) (header : List ℕ) (is : header ≡ wide (headerRow bytes)) (m room c r : ℕ) (numbers : m ≡ listed s)
+      (counts : c ≡ countIn header s) (e : r ≡ min c (room / m)) where
     pub fitting-is : r ≡ fitting bytes s room
     unfolding fitting
-    fitting-is = rw (within-yes 1 5 s (low, high), ← numbers, ← count-there bytes p is s (omega arith)) e
+    fitting-is = rw (within-yes 1 5 s (low, high), ← numbers, ← count-is bytes header is s, ← counts) e
 
-    pub fits-here : Filling bytes (p .version) s (getD (p .starts) s 0) r room
-    fits-here =
+    pub fits-here : (v at : ℕ) → v ≡ versionOf header → at ≡ startIn header s → Filling bytes v s at r room
+    fits-here v at names begins =
         let some : 0 < m = rw numbers (listed-some s (omega arith)) in
-        let few = rows-few bytes s (omega arith) in
-        let count = count-there bytes p is s (omega arith) in
         let least : r ≤ room / m = omega arith in
         record {
-          names = version-there bytes p is;
+          names = names ∙ version-is bytes header is;
           known = omega arith;
-          begins = start-there bytes p is s (omega arith);
-          few = omega arith;
+          begins = begins ∙ start-is bytes header is s;
+          few = omega (arith, few-rows bytes header is s (omega arith));
           holds = rw (← numbers) (le-div-iff-mul-le {k = m} some .0 least);
         }

@@ -12,32 +12,41 @@ use Rattle.base.specs.Least.{leastFrom}
 use Rattle.base.specs.Tabulate.{tabulate}
 use Rattle.base.specs.Tests.{isSome}
 use Rattle.layout.specs.declared.Way.the-variants.{Reading}
-use Rattle.layout.specs.Layout.{layout, headerNames}
-use Rattle.layout.specs.Contracts.{wide}
+use Rattle.layout.specs.declared.Name.the-variants as name
+use Rattle.layout.specs.Layout.{layout, headerNames, kindOf, size}
 use Rattle.layout.specs.Rows.{rowFault, named, converted, listed}
 use Rattle.table.specs.declared.Answer.{Answer}
 use Rattle.table.specs.declared.Unpacked.{Unpacked}
-use Rattle.unpacker.specs.declared.examine.Places.{Places}
 use Rattle.table.specs.Answers.{answer, accepted, firstGiven}
-use Rattle.table.specs.Sections.{headerRow, version, kindIn, rows, from, row, records, lent}
-use Rattle.table.specs.Lists.{listFor, headerOf, unpacked}
+use Rattle.table.specs.Sections.{version, kindIn, rows, start, from, row, records, lent}
 use Rattle.table.specs.Unpack.{answer1, answer2, answer3, answer4, badRow, answerAtRow, counted}
 
--- ---- a table's places
--- field s of the header row counts the rows of section s, and the header is one row
+-- ---- what a header row tells
+-- the version and the delays, as they are meant
+unfoldable pub headerIn : List ℕ → List ℕ
+headerIn header = map (named 0 (converted Reading (layout 0) header)) headerNames
+
+unfoldable pub versionOf : List ℕ → ℕ
+versionOf header = named 0 header name.Version
+
+-- field s of it counts the rows of section s, and the header is one row
 unfoldable pub countIn : List ℕ → ℕ → ℕ
 countIn header zero = 1
 countIn header (suc s) = getD header (suc s) 0
 
-unfoldable pub placesOf : List ℕ → Places
-placesOf bytes = record {
-  header = wide (headerRow bytes);
-  version = version bytes;
-  counts = tabulate (rows bytes) 6;
-  starts = tabulate (from bytes) 7;
-}
+-- the bytes of a section, and the byte where it begins
+abbrev pub bytesOf : List ℕ → ℕ → ℕ
+bytesOf header section = countIn header section * size (kindOf (versionOf header) section)
 
--- row i of a section that begins at this byte, in a table of this version; a count of rows has at most 12 bits
+abbrev pub startIn : List ℕ → ℕ → ℕ
+startIn header section = start (versionOf header) (countIn header) section
+
+-- where it was read, a count of rows has at most 12 bits
+abbrev pub FewRows : (ℕ → ℕ) → Type 0
+FewRows count = (s : ℕ) → s < 6 → count s < 4096
+
+-- ---- a table's rows
+-- row i of a section that begins at this byte, in a table of this version
 pub record RowPlace (bytes : List ℕ) (v section at i : ℕ) : Type 0 where
   pub names : v ≡ version bytes
   pub known : section < 6
@@ -64,15 +73,15 @@ tableAnswer bytes = firstGiven (answer1 bytes ∷ answer2 bytes ∷ answer3 byte
 unfoldable pub numbersOf : ℕ → ℕ → ℕ
 numbersOf section n = pick (eqb section 0) (length headerNames) (n * listed section)
 
--- the first list that is too short, by the lengths of the lists
+-- the first list that is too short, by the rows of each section and the lengths of the lists
 unfoldable pub shortFor : List ℕ → List ℕ → Option ℕ
-shortFor bytes lengths = leastFrom (λ s. ltb (getD lengths s 0) (length (listFor (unpacked bytes) s))) 0 6
+shortFor counts lengths = leastFrom (λ s. ltb (getD lengths s 0) (numbersOf s (getD counts s 0))) 0 6
 
 unfoldable pub judgedAnswer : Answer → Bool → Answer
 judgedAnswer a short = pick (eqb (a .number) 0) (pick short (answer 11 0 0 0) a) a
 
 pub record Judged (bytes lengths : List ℕ) (r : Unpacked) : Type 0 where
-  pub answer : r .answer ≡ judgedAnswer (tableAnswer bytes) (isSome (shortFor bytes lengths))
+  pub answer : r .answer ≡ judgedAnswer (tableAnswer bytes) (isSome (shortFor (tabulate (rows bytes) 6) lengths))
   pub counts : counted r ≡ pick (eqb (r .answer .number) 0) (tabulate (λ s. rows bytes (suc s)) 5) (replicate 5 0)
 
 -- ---- the lists
@@ -81,18 +90,9 @@ unfoldable pub written : List ℕ → ℕ → List ℕ → ℕ → List ℕ
 written out at row zero = out
 written out at row (suc k) = set (written out at row k) (at + k) (getD row k 0)
 
--- the version and the delays of a header row
-unfoldable pub headerIn : List ℕ → List ℕ
-headerIn header = map (named 0 (converted Reading (layout 0) header)) headerNames
-
 -- how many records of a section there are for a list of n numbers: as many as the header counts, and as the list has room for
 unfoldable pub fitting : List ℕ → ℕ → ℕ → ℕ
 fitting bytes section n = pick (within 1 5 section) (min (rows bytes section) (n / listed section)) 0
-
--- what a list of n numbers takes of its section: the header's numbers, where they have room; the records that have room
-unfoldable pub takenOf : List ℕ → ℕ → ℕ → List ℕ
-takenOf bytes section n =
-    pick (eqb section 0) (pick (ltb n (length headerNames)) [] (headerOf bytes)) (records bytes section (fitting bytes section n))
 
 -- n records of a section that begins at this byte, for a list that holds them
 pub record Filling (bytes : List ℕ) (v section at n room : ℕ) : Type 0 where

@@ -12,47 +12,49 @@ ghost use Prim.Native.Nat.{_<_};
 ghost use Rattle.base.specs.Tabulate.{tabulate};
 ghost use Rattle.layout.specs.Contracts.{wide};
 ghost use Rattle.table.specs.Answers.{accepted};
-ghost use Rattle.layout.specs.declared.Name.the-variants as name;
-ghost use Rattle.layout.specs.Rows.{named};
 ghost use Rattle.table.specs.Sections.{headerRow, version as versionIn, rows, from, row};
 ghost use Rattle.table.specs.Lists.{headerOf};
-ghost use Rattle.unpacker.specs.Unpacking.{RowPlace, countIn, headerIn, tableAnswer, lastAnswer, answerIn, answerOf, placesOf};
-
-// The header row and the version that it names, the rows of each section, and the byte where each section begins; section 6 would begin where the table ends.
-pub struct Places {
-    pub header: [u64; LONGEST],
-    pub version: u64,
-    pub counts: [usize; 6],
-    pub starts: [usize; 7],
-}
+ghost use Rattle.unpacker.specs.Unpacking.{versionOf, countIn, bytesOf, startIn, FewRows, headerIn};
+ghost use Rattle.unpacker.specs.Unpacking.{RowPlace, tableAnswer, lastAnswer, answerIn, answerOf};
 
 // The table's own answer, whatever its lists will hold: the first of 01's answers 1 to 4.
 pub fn own_answer(table: &[u8]) -> Answer
     ensures { λ r. ⌜ r ≡ tableAnswer (now (table .entry)) ⌝ }
 {
-    let places = places_in(table);
-    answer_of(table, places)
+    answer_of(table, header_of(table))
 }
 
 // The rows of each section, as the header counts them; the header is one row.
 pub fn counts_of(table: &[u8]) -> [usize; 6]
     ensures { λ r. ⌜ r ≡ tabulate (rows (now (table .entry))) 6 ⌝ }
 {
-    let places = places_in(table);
-    places.counts
+    counts_in(header_of(table))
+}
+
+// The same of a header row.
+pub(crate) fn counts_in(header: [u64; LONGEST]) -> [usize; 6]
+    ensures { λ r. ⌜ r ≡ tabulate (countIn header) 6 ⌝ }
+{
+    [
+        count_in(header, 0),
+        count_in(header, 1),
+        count_in(header, 2),
+        count_in(header, 3),
+        count_in(header, 4),
+        count_in(header, 5),
+    ]
 }
 
 // The header's numbers: the version and the delays.
 pub fn header_list(table: &[u8]) -> [u64; HEADER_LIST]
     ensures { λ r. ⌜ r ≡ headerOf (now (table .entry)) ⌝ }
 {
-    let row = header_numbers(header_of(table));
-    [row[0], row[1], row[2], row[3], row[4]]
+    header_numbers(header_of(table))
 }
 
-// The same of a header row, in an array that has room for any row.
-pub(crate) fn header_numbers(header: [u64; LONGEST]) -> [u64; LONGEST]
-    ensures { λ r. ⌜ r ≡ wide (headerIn header) ⌝ }
+// The same of a header row.
+pub(crate) fn header_numbers(header: [u64; LONGEST]) -> [u64; HEADER_LIST]
+    ensures { λ r. ⌜ r ≡ headerIn header ⌝ }
 {
     let row = layout::converted_row(Way::Reading, 0, header);
     [
@@ -61,24 +63,18 @@ pub(crate) fn header_numbers(header: [u64; LONGEST]) -> [u64; LONGEST]
         row[places::SEND_GREATEST],
         row[places::RECEIVE_LEAST],
         row[places::RECEIVE_GREATEST],
-        0,
-        0,
-        0,
-        0,
-        0,
-        0,
     ]
 }
 
 // The version that a header row names.
-fn version_in(header: [u64; LONGEST]) -> u64
-    ensures { λ r. ⌜ r ≡ named 0 header name.Version ⌝ }
+pub(crate) fn version_in(header: [u64; LONGEST]) -> u64
+    ensures { λ r. ⌜ r ≡ versionOf header ⌝ }
 {
     header[places::VERSION]
 }
 
 // The header is one row; field s of it counts the rows of section s.
-fn count_in(header: [u64; LONGEST], section: usize) -> usize
+pub(crate) fn count_in(header: [u64; LONGEST], section: usize) -> usize
     requires { ⌜ section < 6 ⌝ }
     ensures { λ r. ⌜ r ≡ countIn header section ⌝ }
 {
@@ -86,6 +82,28 @@ fn count_in(header: [u64; LONGEST], section: usize) -> usize
         return 1;
     }
     header[section] as usize
+}
+
+// The bytes of a section, by its rows.
+fn bytes_of(header: [u64; LONGEST], section: usize) -> usize
+    requires { ⌜ FewRows (countIn header) × (section < 6) ⌝ }
+    ensures { λ r. ⌜ r ≡ bytesOf header section ⌝ }
+{
+    count_in(header, section) * layout::bytes_in(layout::kind_of(version_in(header), section))
+}
+
+// The byte where a section begins: sections follow one another, and section 6 would begin where the table ends.
+pub(crate) fn start_in(header: [u64; LONGEST], section: usize) -> usize
+    requires { ⌜ FewRows (countIn header) × (section < 7) ⌝ }
+    ensures { λ r. ⌜ r ≡ startIn header section ⌝ }
+{
+    let mut at = 0;
+    let mut s = 0;
+    while s < section {
+        at += bytes_of(header, s);
+        s += 1;
+    }
+    at
 }
 
 // The header row, of the first 14 bytes alone: a table that is too long for a row to be read from it has one all the same.
@@ -96,29 +114,6 @@ pub(crate) fn header_of(table: &[u8]) -> [u64; LONGEST]
         return layout::row_at(&table[..HEADER_BYTES], 0, 0);
     }
     layout::row_at(table, 0, 0)
-}
-
-pub(crate) fn places_in(table: &[u8]) -> Places
-    ensures { λ r. ⌜ r ≡ placesOf (now (table .entry)) ⌝ }
-{
-    let header = header_of(table);
-    let version = version_in(header);
-    let mut counts = [0usize; 6];
-    let mut starts = [0usize; 7];
-    let mut s = 0;
-    while s < 6 {
-        let n = count_in(header, s);
-        let end = starts[s] + n * layout::bytes_in(layout::kind_of(version, s));
-        counts[s] = n;
-        s += 1;
-        starts[s] = end;
-    }
-    Places {
-        header: header,
-        version: version,
-        counts: counts,
-        starts: starts,
-    }
 }
 
 fn none_given() -> Answer
@@ -132,8 +127,9 @@ fn none_given() -> Answer
     }
 }
 
-fn answer_of(table: &[u8], places: Places) -> Answer
-    requires { ⌜ places ≡ placesOf (now table) ⌝ }
+// The first of the answers 1 to 4, of a table and its header row.
+pub(crate) fn answer_of(table: &[u8], header: [u64; LONGEST]) -> Answer
+    requires { ⌜ header ≡ wide (headerRow (now table)) ⌝ }
     ensures { λ r. ⌜ r ≡ tableAnswer (now (table .entry)) ⌝ }
 {
     if table.len() < HEADER_BYTES {
@@ -144,7 +140,6 @@ fn answer_of(table: &[u8], places: Places) -> Answer
             test: 0,
         };
     }
-    let header = places.header;
     let fault = layout::fault_of(Way::Reading, 0, header);
     match fault {
         Fault::Test(test) => Answer {
@@ -153,19 +148,16 @@ fn answer_of(table: &[u8], places: Places) -> Answer
             row: 0,
             test: test,
         },
-        Fault::Nothing => answer_of_rows(table, places),
+        Fault::Nothing => answer_of_rows(table, header),
     }
 }
 
 // Answers 3 and 4.
-fn answer_of_rows(table: &[u8], places: Places) -> Answer
-    requires { ⌜ places ≡ placesOf (now table) ⌝ }
+fn answer_of_rows(table: &[u8], header: [u64; LONGEST]) -> Answer
+    requires { ⌜ header ≡ wide (headerRow (now table)) ⌝ }
     ensures { λ r. ⌜ r ≡ lastAnswer (now (table .entry)) ⌝ }
 {
-    let version = places.version;
-    let starts = places.starts;
-    let counts = places.counts;
-    if table.len() != starts[6] {
+    if table.len() != start_in(header, 6) {
         return Answer {
             number: 3,
             section: 0,
@@ -173,13 +165,16 @@ fn answer_of_rows(table: &[u8], places: Places) -> Answer
             test: 0,
         };
     }
+    let version = version_in(header);
+    let mut at = start_in(header, 1);
     let mut s = 1;
     while s < 6 {
-        let answer = answer_in(table, version, s, starts[s], counts[s]);
+        let answer = answer_in(table, version, s, at, count_in(header, s));
         let number = answer.number;
         if number != 0 {
             return answer;
         }
+        at += bytes_of(header, s);
         s += 1;
     }
     none_given()

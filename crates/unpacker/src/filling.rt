@@ -10,32 +10,14 @@ ghost use Prim.Native.Nat.{_+_, _≤_, min};
 ghost use lib.Dec.{eqb};
 ghost use lib.ListN.{length, replicate};
 ghost use Rattle.base.specs.Pick.{pick};
+ghost use Rattle.layout.specs.Layout.{headerNames};
 ghost use Rattle.table.specs.Sections.{records, lent};
-ghost use Rattle.unpacker.specs.Unpacking.{fitting, takenOf, Filling, Adding, written};
-
-// The list of a section, by the number of the unpacker's answer: nothing but zeros on a refusal.
-pub(crate) fn fill_list(table: &[u8], number: u64, section: usize, out: &mut [u64])
-    ensures { λ _. ⌜ now (out .exit) ≡ lent (length (now (out .entry))) (pick (eqb number 0) (takenOf (now (table .entry)) section (length (now (out .entry)))) []) ⌝ }
-{
-    if number != 0 {
-        clear(out);
-        return;
-    }
-    if section == 0 {
-        fill_header(table, out);
-        return;
-    }
-    fill_section(table, section, out);
-}
+ghost use Rattle.unpacker.specs.Unpacking.{headerIn, fitting, Filling, Adding, written};
 
 // The records of a section, as many as the list has room for, and zeros; nothing but zeros where there is no such section.
 pub fn fill_section(table: &[u8], section: usize, out: &mut [u64])
     ensures { λ _. ⌜ now (out .exit) ≡ lent (length (now (out .entry))) (records (now (table .entry)) section (fitting (now (table .entry)) section (length (now (out .entry))))) ⌝ }
 {
-    let places = examine::places_in(table);
-    let version = places.version;
-    let counts = places.counts;
-    let starts = places.starts;
     if section < 1 {
         clear(out);
         return;
@@ -44,8 +26,19 @@ pub fn fill_section(table: &[u8], section: usize, out: &mut [u64])
         clear(out);
         return;
     }
-    let n = fewer(counts[section], out.len() / layout::numbers_in(section));
-    fill(table, version, section, starts[section], n, out);
+    let header = examine::header_of(table);
+    let n = fewer(
+        examine::count_in(header, section),
+        out.len() / layout::numbers_in(section),
+    );
+    fill(
+        table,
+        examine::version_in(header),
+        section,
+        examine::start_in(header, section),
+        n,
+        out,
+    );
 }
 
 fn fewer(a: usize, b: usize) -> usize
@@ -58,7 +51,7 @@ fn fewer(a: usize, b: usize) -> usize
 }
 
 // The records of the first n rows of a section that begins at byte `at`, and zeros.
-fn fill(table: &[u8], version: u64, section: usize, at: usize, n: usize, out: &mut [u64])
+pub(crate) fn fill(table: &[u8], version: u64, section: usize, at: usize, n: usize, out: &mut [u64])
     requires { ⌜ Filling (now table) version section at n (length (now out)) ⌝ }
     ensures { λ _. ⌜ now (out .exit) ≡ lent (length (now (out .entry))) (records (now (table .entry)) section n) ⌝ }
 {
@@ -79,29 +72,26 @@ fn add_record(table: &[u8], version: u64, section: usize, at: usize, i: usize, o
     let kind = layout::kind_of(version, section);
     let row = layout::converted_row(Way::Reading, kind, raw);
     let n = layout::numbers_in(section);
-    put_numbers(out, i * n, n, row);
+    put_numbers(out, i * n, n, &row);
 }
 
-// The header's numbers, where the list has room for them, and zeros.
-fn fill_header(table: &[u8], out: &mut [u64])
-    ensures { λ _. ⌜ now (out .exit) ≡ lent (length (now (out .entry))) (takenOf (now (table .entry)) 0 (length (now (out .entry)))) ⌝ }
+// The header's numbers, by the number of the unpacker's answer: nothing but zeros on a refusal.
+pub(crate) fn fill_header(header: [u64; LONGEST], number: u64, out: &mut [u64])
+    requires { ⌜ (number ≡ 0 → length headerNames ≤ length (now out)) ⌝ }
+    ensures { λ _. ⌜ now (out .exit) ≡ lent (length (now (out .entry))) (pick (eqb number 0) (headerIn header) []) ⌝ }
 {
     clear(out);
-    if out.len() < HEADER_LIST {
+    if number != 0 {
         return;
     }
-    put_numbers(
-        out,
-        0,
-        HEADER_LIST,
-        examine::header_numbers(examine::header_of(table)),
-    );
+    let numbers = examine::header_numbers(header);
+    put_numbers(out, 0, HEADER_LIST, &numbers);
 }
 
 // The first n numbers of a row, from place `at` of the list on.
-fn put_numbers(out: &mut [u64], at: usize, n: usize, row: [u64; LONGEST])
-    requires { ⌜ (at + n ≤ length (now out)) × (n ≤ length row) ⌝ }
-    ensures { λ _. ⌜ now (out .exit) ≡ written (now (out .entry)) at row n ⌝ }
+fn put_numbers(out: &mut [u64], at: usize, n: usize, row: &[u64])
+    requires { ⌜ (at + n ≤ length (now out)) × (n ≤ length (now row)) ⌝ }
+    ensures { λ _. ⌜ now (out .exit) ≡ written (now (out .entry)) at (now (row .entry)) n ⌝ }
 {
     let mut k = 0;
     while k < n {

@@ -2,21 +2,26 @@
 // What a list has to hold is told by the count of its rows.
 use crate::examine;
 use layout::sizes::HEADER_LIST;
+use layout::sizes::LONGEST;
 use table::Answer;
 use table::Unpacked;
 ghost use mathlib.Core.Path.{_≡_};
 ghost use Prim.Native.Nat.{_<_};
 ghost use lib.Dec.{eqb};
-ghost use lib.ListN.{replicate};
+ghost use lib.ListN.{getD, replicate};
 ghost use Rattle.base.specs.Pick.{pick};
 ghost use Rattle.base.specs.Tests.{isSome};
-ghost use Rattle.unpacker.specs.Unpacking.{numbersOf, shortFor, judgedAnswer, Judged};
+ghost use Rattle.layout.specs.Contracts.{wide};
+ghost use Rattle.table.specs.Sections.{headerRow};
+ghost use Rattle.unpacker.specs.Unpacking.{FewRows, numbersOf, shortFor, judgedAnswer, Judged};
 
-pub(crate) fn judge(table: &[u8], lengths: [usize; 6]) -> Unpacked
+pub(crate) fn judge(table: &[u8], header: [u64; LONGEST], lengths: [usize; 6]) -> Unpacked
+    requires { ⌜ header ≡ wide (headerRow (now table)) ⌝ }
     ensures { λ r. ⌜ Judged (now (table .entry)) lengths r ⌝ }
 {
-    let answer = answer_with(examine::own_answer(table), is_short(table, lengths));
-    let taken = taken_rows(answer, examine::counts_of(table));
+    let counts = examine::counts_in(header);
+    let answer = answer_with(examine::answer_of(table, header), is_short(counts, lengths));
+    let taken = taken_rows(answer, counts);
     Unpacked {
         answer: answer,
         systems: taken[1],
@@ -39,10 +44,10 @@ fn numbers_of(section: usize, n: usize) -> usize
 }
 
 // Whether a list is too short for the numbers of its section.
-fn is_short(table: &[u8], lengths: [usize; 6]) -> bool
-    ensures { λ r. ⌜ r ≡ isSome (shortFor (now (table .entry)) lengths) ⌝ }
+fn is_short(counts: [usize; 6], lengths: [usize; 6]) -> bool
+    requires { ⌜ FewRows (λ s. getD counts s 0) ⌝ }
+    ensures { λ r. ⌜ r ≡ isSome (shortFor counts lengths) ⌝ }
 {
-    let counts = examine::counts_of(table);
     let mut s = 0;
     while s < 6 {
         let n = numbers_of(s, counts[s]);

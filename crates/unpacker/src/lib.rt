@@ -6,8 +6,13 @@ mod judging;
 
 pub use examine::counts_of;
 pub use examine::header_list;
+use examine::header_of;
 pub use examine::own_answer;
+use examine::start_in;
+use examine::version_in;
 pub use filling::clear;
+use filling::fill;
+use filling::fill_header;
 pub use filling::fill_section;
 use table::Unpacked;
 ghost use Rattle.table.specs.Lists.{lists};
@@ -52,14 +57,16 @@ pub fn unpack(
         ports.len(),
         hops.len(),
     ];
-    let unpacked = judging::judge(table, lengths);
-    let answer = unpacked.answer;
+    let row = header_of(table);
+    let taken = judging::judge(table, row, lengths);
+    let answer = taken.answer;
     let number = answer.number;
-    filling::fill_list(table, number, 0, header);
-    filling::fill_list(table, number, 1, systems);
-    filling::fill_list(table, number, 2, vls);
-    filling::fill_list(table, number, 3, streams);
-    filling::fill_list(table, number, 4, ports);
-    filling::fill_list(table, number, 5, hops);
-    unpacked
+    let version = version_in(row);
+    fill_header(row, number, header);
+    fill(table, version, 1, start_in(row, 1), taken.systems, systems);
+    fill(table, version, 2, start_in(row, 2), taken.vls, vls);
+    fill(table, version, 3, start_in(row, 3), taken.streams, streams);
+    fill(table, version, 4, start_in(row, 4), taken.ports, ports);
+    fill(table, version, 5, start_in(row, 5), taken.hops, hops);
+    taken
 }

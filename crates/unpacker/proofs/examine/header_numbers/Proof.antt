@@ -1,12 +1,12 @@
 -- `unpacker::header_numbers` meets its contract: the version and the delays stand at their places in the row, as they are meant.
 -- Assumes nothing.
-use Rattle.unpacker.proofs.ListLaws.{header-wide}
+use Rattle.unpacker.proofs.ListLaws.{header-five}
 use borrow.Author.Needs.{needs}
 use Rattle.unpacker.proofs.examine.header_numbers.Statement.{statement}
 use Rattle.unpacker.proofs.examine.header_numbers.Tie as tie
 
 returns : tie.Need-returns
-returns c = header-wide (c .before .args .header) _ (c .converted-row .ensures)
+returns c = header-five (c .before .args .header) _ (c .converted-row .ensures)
 
 pub header-numbers-spec : {M : Type 1} → statement M
 header-numbers-spec =

@@ -1,4 +1,4 @@
--- `unpacker::own_answer` meets its contract: it is the answer by the table's places.
+-- `unpacker::own_answer` meets its contract: it is the answer by the header row.
 -- Assumes nothing.
 use borrow.Author.Needs.{needs}
 use Rattle.unpacker.proofs.examine.own_answer.Statement.{statement}

@@ -14,18 +14,21 @@ mul-put-numbers c =
 
 put-numbers-requires : tie.Need-put-numbers-requires
 put-numbers-requires c κs =
-    let a = c .before .before .before .before .before .before .before .args in
-    let most = numbers-most (a .i) (a .section) _ (omega arith) (c .before .numbers-in .ensures) in
-    (rw (c .before .numbers-in .ensures) (omega (arith, c .before .before .before .before .before .before .before .pre .holds)), omega arith)
+    let start = c .before .before .before .before .before .before .before .before in
+    let numbers = c .before .before .numbers-in .ensures in
+    let most = numbers-most (start .args .i) (start .args .section) _ (omega arith) numbers in
+    (rw numbers (omega (arith, start .pre .holds)), omega arith)
 
 returns : tie.Need-returns
 returns c =
-    let start = c .before .before .before .before .before .before .before .before .before .before in
+    let put = c .before .before in
+    let numbers = put .before .before .before in
+    let read = numbers .before .before .before in
+    let start = read .before .before .before in
     let a = start .args in
-    c .before .before .put-numbers .ensures
-    ∙ record-added (a .table .now) (a .section) (a .version) (a .at) (a .i) _ _ (a .out .now) _ _ (start .pre) (c .before .before .before .before .before .before .kind-of .ensures) (c .before .before .before .before .numbers-in .ensures)
-    (c .before .before .before .before .before .before .before .raw-row .ensures)
-    (c .before .before .before .before .before .converted-row .ensures)
+    put .put-numbers .ensures
+    ∙ record-added (a .table .now) (a .section) (a .version) (a .at) (a .i) _ _ (a .out .now) _ _ (start .pre)
+    (numbers .before .before .kind-of .ensures) (numbers .numbers-in .ensures) (read .raw-row .ensures) (numbers .before .converted-row .ensures)
 
 pub add-record-spec : {M : Type 1} → statement M
 add-record-spec =
@@ -33,6 +36,7 @@ add-record-spec =
     (tie.spec
     (λ c κs. search needs) (λ c κs. search needs) (λ c κs. search needs) (λ c κs. search needs)
     mul-put-numbers
+    (λ c. search needs)
     put-numbers-requires
     (λ c. search needs)
     returns)

@@ -1,44 +1,39 @@
--- `unpacker::filling::fill_header` meets its contract: the version and the delays of the header row, as they are meant.
+-- `unpacker::filling::fill_header` meets its contract: the version and the delays of the header row, and a refusal writes none of them.
 -- Assumes nothing.
-use Prim.Native.Nat.{ℕ, _≤_}
-use mathlib.Core.List.{List}
-use mathlib.Core.Path.{sym, ap, _∙_}
+use mathlib.Core.Path.{sym, _∙_}
 use native.Mathlib.Omega.{arith}
 use lib.ListN.{length}
-use borrow.Author.Tests.{lt-ltb, le-ltb}
-use Rattle.table.specs.Sections.{lent}
+use borrow.Author.Tests.{eq-eqb, ne-eqb}
 use Rattle.table.proofs.LentLaws.{lent-none}
-use Rattle.unpacker.specs.Unpacking.{headerIn, takenOf}
-use Rattle.unpacker.proofs.ListLaws.{cleared-length, header-put, header-in}
+use Rattle.unpacker.proofs.ListLaws.{cleared-length, header-put}
 use borrow.Author.Needs.{needs}
 use Rattle.unpacker.proofs.filling.fill_header.Statement.{statement}
 use Rattle.unpacker.proofs.filling.fill_header.Tie as tie
 
 returns : tie.Need-returns
-unfolding takenOf
 returns c =
-    let n = length (c .before .before .before .before .before .before .before .args .out .now) in
-    let zeros = c .before .before .before .clear .ensures in
-    rw (lt-ltb n 5 (omega (arith, cleared-length _ n zeros))) (zeros ∙ sym (lent-none n))
+    let cleared = c .before .before .before in
+    let a = cleared .before .before .before .args in
+    rw (ne-eqb (a .number) 0 (c .if1 .taken)) (cleared .clear .ensures ∙ sym (lent-none (length (a .out .now))))
 
 put-numbers-requires : tie.Need-put-numbers-requires
 put-numbers-requires c κs =
-    let n = length (c .before .before .before .before .before .before .before .before .before .before .args .out .now) in
-    (omega (arith, cleared-length _ n (c .before .before .before .before .before .before .clear .ensures)), omega arith)
+    let cleared = c .before .before .before .before .before .before in
+    let start = cleared .before .before .before in
+    let long = start .pre (c .before .before .before .if1 .left) in
+    (omega (arith, cleared-length _ (length (start .args .out .now)) (cleared .clear .ensures)), omega arith)
 
 returns-2 : tie.Need-returns-2
-unfolding takenOf
 returns-2 c =
-    let a = c .before .before .before .before .before .before .before .before .before .before .before .before .before .args in
-    let n = length (a .out .now) in
-    let zeros = c .before .before .before .before .before .before .before .before .before .clear .ensures in
-    let header = c .before .before .before .before .header-of in
-    let long : 5 ≤ n = omega (arith, cleared-length _ n zeros) in
-    rw (le-ltb n 5 long)
-    (c .before .before .put-numbers .ensures
-    ∙ header-put (header .result) _ _ n zeros (c .before .before .before .header-numbers .ensures) long
-    ∙ ap (λ (l : List ℕ). lent n (headerIn l)) (header .ensures)
-    ∙ ap (lent n) (header-in (a .table .now)))
+    let put = c .before .before in
+    let told = put .before .before .before in
+    let cleared = told .before .before .before .before in
+    let start = cleared .before .before .before in
+    let a = start .args in
+    let accepted = told .before .if1 .left in
+    rw (eq-eqb (a .number) 0 accepted)
+    (put .put-numbers .ensures
+    ∙ header-put (a .header) _ _ (length (a .out .now)) (cleared .clear .ensures) (told .header-numbers .ensures) (start .pre accepted))
 
 pub fill-header-spec : {M : Type 1} → statement M
 fill-header-spec =
@@ -46,7 +41,7 @@ fill-header-spec =
     (tie.spec
     (λ c κs. search needs) (λ c. search needs)
     returns
-    (λ c κs. search needs) (λ c κs. search needs)
+    (λ c κs. search needs) (λ c. search needs)
     put-numbers-requires
     (λ c. search needs)
     returns-2)

@@ -23,9 +23,9 @@ loop-holds c = search needs
 loop-again : tie.Need-loop-again Inv-loop μ-loop
 unfolding written
 loop-again c =
-    let a = c .before .before .args in
-    let l = c .before .loop in
-    (omega arith, length-set (l .out) (a .at + l .k) (getD (a .t4) (l .k) 0) ∙ l .inv .1, rw (l .inv .2, add-one (l .k)))
+    let a = c .before .before .before .args in
+    let l = c .before .before .loop in
+    (omega arith, length-set (l .out) (a .at + l .k) (getD (a .row .now) (l .k) 0) ∙ l .inv .1, rw (l .inv .2, add-one (l .k)))
 
 returns : tie.Need-returns Inv-loop μ-loop
 returns c = let e : c .before .loop .k ≡ c .before .before .args .n = omega arith in rw (← e) (c .before .loop .inv .2)
