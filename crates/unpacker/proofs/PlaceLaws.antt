@@ -15,7 +15,7 @@ use Rattle.layout.specs.Contracts.{wide}
 use Rattle.layout.proofs.RowLaws.{wide-at}
 use Rattle.table.specs.Sections.{headerRow, version, kindIn, rows, start, from, row}
 use Rattle.table.proofs.SectionLaws.{section-most, start-most, from-most, start-same, rows-few}
-use Rattle.unpacker.specs.Unpacking.{versionOf, countIn, bytesOf, startIn, FewRows, RowPlace}
+use Rattle.unpacker.specs.Unpacking.{versionOf, countIn, bytesOf, startIn, FewRows, HeaderRead, RowPlace}
 
 -- ---- of a header row
 module _ (header : List ℕ) where
@@ -54,8 +54,8 @@ module _ (bytes header : List ℕ) (is : header ≡ wide (headerRow bytes)) wher
   pub counts-are : tabulate (countIn header) 6 ≡ tabulate (rows bytes) 6
   counts-are = tabulate-same (countIn header) (rows bytes) 6 (λ s h. count-is s)
 
-  pub few-rows : FewRows (countIn header)
-  few-rows s h = rw (count-is s) (rows-few bytes s h)
+  pub header-read : HeaderRead bytes header
+  header-read = record { is = is; few = λ s h. rw (count-is s) (rows-few bytes s h) }
 
   pub start-is : (s : ℕ) → startIn header s ≡ from bytes s
   start-is s = rw version-is (start-same (version bytes) (countIn header) (rows bytes) s (λ j l. count-is j))

@@ -9,12 +9,11 @@ use native.Mathlib.Omega.{arith}
 use lib.ListN.{replicate}
 use Rattle.base.proofs.Tests.{within-yes, within-not}
 use Rattle.layout.specs.Rows.{listed}
-use Rattle.layout.specs.Contracts.{wide}
-use Rattle.table.specs.Sections.{headerRow, records, lent}
+use Rattle.table.specs.Sections.{records, lent}
 use Rattle.table.proofs.LentLaws.{lent-none}
 use Rattle.layout.proofs.LayoutLaws.{listed-some}
-use Rattle.unpacker.specs.Unpacking.{versionOf, countIn, startIn, fitting, Filling}
-use Rattle.unpacker.proofs.PlaceLaws.{version-is, count-is, few-rows, start-is}
+use Rattle.unpacker.specs.Unpacking.{versionOf, countIn, startIn, HeaderRead, fitting, Filling}
+use Rattle.unpacker.proofs.PlaceLaws.{version-is, count-is, start-is}
 
 module _ (bytes : List ℕ) (s : ℕ) where
   -- ---- no such section
@@ -23,20 +22,20 @@ module _ (bytes : List ℕ) (s : ℕ) where
   nothing-fits n out h e = rw (within-not 1 5 s h) (e ∙ sym (lent-none n))
 
   -- ---- as many as fit
-  module _ (low : 1 ≤ s) (high : s ≤ 5) (header : List ℕ) (is : header ≡ wide (headerRow bytes)) (m room c r : ℕ) (numbers : m ≡ listed s)
+  module _ (low : 1 ≤ s) (high : s ≤ 5) (header : List ℕ) (read : HeaderRead bytes header) (m room c r : ℕ) (numbers : m ≡ listed s)
       (counts : c ≡ countIn header s) (e : r ≡ min c (room / m)) where
     pub fitting-is : r ≡ fitting bytes s room
     unfolding fitting
-    fitting-is = rw (within-yes 1 5 s (low, high), ← numbers, ← count-is bytes header is s, ← counts) e
+    fitting-is = rw (within-yes 1 5 s (low, high), ← numbers, ← count-is bytes header (read .is) s, ← counts) e
 
     pub fits-here : (v at : ℕ) → v ≡ versionOf header → at ≡ startIn header s → Filling bytes v s at r room
     fits-here v at names begins =
         let some : 0 < m = rw numbers (listed-some s (omega arith)) in
         let least : r ≤ room / m = omega arith in
         record {
-          names = names ∙ version-is bytes header is;
+          names = names ∙ version-is bytes header (read .is);
           known = omega arith;
-          begins = begins ∙ start-is bytes header is s;
-          few = omega (arith, few-rows bytes header is s (omega arith));
+          begins = begins ∙ start-is bytes header (read .is) s;
+          few = omega (arith, read .few s (omega arith));
           holds = rw (← numbers) (le-div-iff-mul-le {k = m} some .0 least);
         }

@@ -14,11 +14,12 @@ use Rattle.base.specs.Tests.{isSome}
 use Rattle.layout.specs.declared.Way.the-variants.{Reading}
 use Rattle.layout.specs.declared.Name.the-variants as name
 use Rattle.layout.specs.Layout.{layout, headerNames, kindOf, size}
+use Rattle.layout.specs.Contracts.{wide}
 use Rattle.layout.specs.Rows.{rowFault, named, converted, listed}
 use Rattle.table.specs.declared.Answer.{Answer}
 use Rattle.table.specs.declared.Unpacked.{Unpacked}
 use Rattle.table.specs.Answers.{answer, accepted, firstGiven}
-use Rattle.table.specs.Sections.{version, kindIn, rows, start, from, row, records, lent}
+use Rattle.table.specs.Sections.{headerRow, version, kindIn, rows, start, from, row, records, lent}
 use Rattle.table.specs.Unpack.{answer1, answer2, answer3, answer4, badRow, answerAtRow, counted}
 
 -- ---- what a header row tells
@@ -41,9 +42,13 @@ bytesOf header section = countIn header section * size (kindOf (versionOf header
 abbrev pub startIn : List ℕ → ℕ → ℕ
 startIn header section = start (versionOf header) (countIn header) section
 
--- where it was read, a count of rows has at most 12 bits
+-- the header row of a table, as it is read: a count of rows has at most 12 bits
 abbrev pub FewRows : (ℕ → ℕ) → Type 0
 FewRows count = (s : ℕ) → s < 6 → count s < 4096
+
+pub record HeaderRead (bytes header : List ℕ) : Type 0 where
+  pub is : header ≡ wide (headerRow bytes)
+  pub few : FewRows (countIn header)
 
 -- ---- a table's rows
 -- row i of a section that begins at this byte, in a table of this version

@@ -12,9 +12,9 @@ ghost use Prim.Native.Nat.{_<_};
 ghost use Rattle.base.specs.Tabulate.{tabulate};
 ghost use Rattle.layout.specs.Contracts.{wide};
 ghost use Rattle.table.specs.Answers.{accepted};
-ghost use Rattle.table.specs.Sections.{headerRow, version as versionIn, rows, from, row};
+ghost use Rattle.table.specs.Sections.{version as versionIn, rows, from, row};
 ghost use Rattle.table.specs.Lists.{headerOf};
-ghost use Rattle.unpacker.specs.Unpacking.{versionOf, countIn, bytesOf, startIn, FewRows, headerIn};
+ghost use Rattle.unpacker.specs.Unpacking.{versionOf, countIn, bytesOf, startIn, FewRows, HeaderRead, headerIn};
 ghost use Rattle.unpacker.specs.Unpacking.{RowPlace, tableAnswer, lastAnswer, answerIn, answerOf};
 
 // The table's own answer, whatever its lists will hold: the first of 01's answers 1 to 4.
@@ -108,7 +108,7 @@ pub(crate) fn start_in(header: [u64; LONGEST], section: usize) -> usize
 
 // The header row, of the first 14 bytes alone: a table that is too long for a row to be read from it has one all the same.
 pub(crate) fn header_of(table: &[u8]) -> [u64; LONGEST]
-    ensures { λ r. ⌜ r ≡ wide (headerRow (now (table .entry))) ⌝ }
+    ensures { λ r. ⌜ HeaderRead (now (table .entry)) r ⌝ }
 {
     if HEADER_BYTES <= table.len() {
         return layout::row_at(&table[..HEADER_BYTES], 0, 0);
@@ -129,7 +129,7 @@ fn none_given() -> Answer
 
 // The first of the answers 1 to 4, of a table and its header row.
 pub(crate) fn answer_of(table: &[u8], header: [u64; LONGEST]) -> Answer
-    requires { ⌜ header ≡ wide (headerRow (now table)) ⌝ }
+    requires { ⌜ HeaderRead (now table) header ⌝ }
     ensures { λ r. ⌜ r ≡ tableAnswer (now (table .entry)) ⌝ }
 {
     if table.len() < HEADER_BYTES {
@@ -154,7 +154,7 @@ pub(crate) fn answer_of(table: &[u8], header: [u64; LONGEST]) -> Answer
 
 // Answers 3 and 4.
 fn answer_of_rows(table: &[u8], header: [u64; LONGEST]) -> Answer
-    requires { ⌜ header ≡ wide (headerRow (now table)) ⌝ }
+    requires { ⌜ HeaderRead (now table) header ⌝ }
     ensures { λ r. ⌜ r ≡ lastAnswer (now (table .entry)) ⌝ }
 {
     if table.len() != start_in(header, 6) {

@@ -11,12 +11,10 @@ ghost use lib.Dec.{eqb};
 ghost use lib.ListN.{getD, replicate};
 ghost use Rattle.base.specs.Pick.{pick};
 ghost use Rattle.base.specs.Tests.{isSome};
-ghost use Rattle.layout.specs.Contracts.{wide};
-ghost use Rattle.table.specs.Sections.{headerRow};
-ghost use Rattle.unpacker.specs.Unpacking.{FewRows, numbersOf, shortFor, judgedAnswer, Judged};
+ghost use Rattle.unpacker.specs.Unpacking.{FewRows, HeaderRead, numbersOf, shortFor, judgedAnswer, Judged};
 
 pub(crate) fn judge(table: &[u8], header: [u64; LONGEST], lengths: [usize; 6]) -> Unpacked
-    requires { ⌜ header ≡ wide (headerRow (now table)) ⌝ }
+    requires { ⌜ HeaderRead (now table) header ⌝ }
     ensures { λ r. ⌜ Judged (now (table .entry)) lengths r ⌝ }
 {
     let counts = examine::counts_in(header);

@@ -8,8 +8,7 @@ use lib.ListN.{length, getD}
 use Rattle.layout.specs.Layout.{headerNames}
 use Rattle.table.specs.Lists.{Lists, lists, listFor}
 use Rattle.table.specs.Unpack.{counted}
-use Rattle.unpacker.specs.Unpacking.{countIn, startIn, FewRows, Filling}
-use Rattle.unpacker.proofs.PlaceLaws.{few-rows}
+use Rattle.unpacker.specs.Unpacking.{startIn, Filling}
 use Rattle.unpacker.proofs.JudgeLaws.{header-fits, records-fit, unpacks-of}
 use borrow.Author.Needs.{needs}
 use Rattle.unpacker.proofs.unpack.Statement.{statement}
@@ -48,16 +47,13 @@ module _ (c : tie.After-version-in) where
   abbrev before : Lists
   before = let a = start .args in lists (a .header .now) (a .systems .now) (a .vls .now) (a .streams .now) (a .ports .now) (a .hops .now)
 
-  few : FewRows (countIn (judged .before .header-of .result))
-  few = few-rows bytes _ (judged .before .header-of .ensures)
-
   header-room : judged .judge .result .answer .number ≡ 0 → length headerNames ≤ length (listFor before 0)
   header-room = header-fits bytes before (judged .judge .result) (judged .judge .ensures)
 
   room : (s at : ℕ) → suc s < 6 → at ≡ startIn (judged .before .header-of .result) (suc s)
       → Filling bytes (c .version-in .result) (suc s) at (getD (counted (judged .judge .result)) s 0) (length (listFor before (suc s)))
   room s at h begins =
-      records-fit bytes before (judged .judge .result) (judged .judge .ensures) _ (judged .before .header-of .ensures) _ at s h
+      records-fit bytes before (judged .judge .result) (judged .judge .ensures) _ (judged .before .header-of .ensures .is) _ at s h
       (c .version-in .ensures) begins
 
 same-length : tie.Need-same-length
@@ -73,7 +69,7 @@ returns c =
     let f1 = f2 .before .before .before .before .before in
     let f0 = header-filled f1 in
     let j = judged (told f1) in
-    unpacks-of (bytes (told f1)) (before (told f1)) (j .judge .result) (j .judge .ensures) _ (j .before .header-of .ensures) _
+    unpacks-of (bytes (told f1)) (before (told f1)) (j .judge .result) (j .judge .ensures) _ (j .before .header-of .ensures .is) _
     (λ i. record {
       header = f0 .fill-header .ensures i;
       systems = f1 .fill .ensures i;
@@ -90,15 +86,15 @@ unpack-spec =
     (tie.spec
     (λ c κs. search needs) (λ c κs. search needs) (λ c κs. search needs)
     (λ c κs. header-room (c .before))
-    (λ c κs. (few (c .before .before .before .before), omega arith))
+    (λ c κs. search needs)
     (λ c κs. room (c .before .before .before .before .before .before) 0 _ (omega arith) (c .before .start-in .ensures))
-    (λ c κs. (few (told (c .before .before)), omega arith))
+    (λ c κs. search needs)
     (λ c κs. room (told (c .before .before .before .before)) 1 _ (omega arith) (c .before .start-in2 .ensures))
-    (λ c κs. (few (told (from-2 (c .before .before))), omega arith))
+    (λ c κs. search needs)
     (λ c κs. room (told (from-2 (c .before .before .before .before))) 2 _ (omega arith) (c .before .start-in3 .ensures))
-    (λ c κs. (few (told (from-3 (c .before .before))), omega arith))
+    (λ c κs. search needs)
     (λ c κs. room (told (from-3 (c .before .before .before .before))) 3 _ (omega arith) (c .before .start-in4 .ensures))
-    (λ c κs. (few (told (from-4 (c .before .before))), omega arith))
+    (λ c κs. (judged (told (from-4 (c .before .before))) .before .header-of .ensures .few, omega arith))
     (λ c κs. room (told (from-4 (c .before .before .before .before))) 4 _ (omega arith) (c .before .start-in5 .ensures))
     same-length
     (λ c. search needs) (λ c. search needs) (λ c. search needs) (λ c. search needs) (λ c. search needs)

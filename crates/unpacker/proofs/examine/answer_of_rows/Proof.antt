@@ -8,7 +8,7 @@ use Rattle.table.specs.Sections.{from}
 use Rattle.table.specs.declared.Answer.{Answer}
 use Rattle.unpacker.specs.Unpacking.{startIn}
 use Rattle.unpacker.proofs.ExamineLaws.{CleanTo, clean-more, length-bad, table-bad, table-good}
-use Rattle.unpacker.proofs.PlaceLaws.{version-is, count-is, few-rows, start-is, bytes-most, starts-most, start-more}
+use Rattle.unpacker.proofs.PlaceLaws.{version-is, count-is, start-is, bytes-most, starts-most, start-more}
 use borrow.Author.Needs.{needs}
 use Rattle.unpacker.proofs.examine.answer_of_rows.Statement.{statement}
 use Rattle.unpacker.proofs.examine.answer_of_rows.Tie as tie
@@ -19,20 +19,12 @@ Inv-loop table header version at₀ s₀ at s = (1 ≤ s) × (s ≤ 6) × (at �
 abbrev μ-loop : tie.MeasureT-loop
 μ-loop table header version at₀ s₀ at s = 6 - s
 
-start-in-requires : tie.Need-start-in-requires Inv-loop μ-loop
-start-in-requires c κs = (few-rows (c .before .args .table .now) (c .before .args .header) (c .before .pre), omega arith)
-
 returns : tie.Need-returns Inv-loop μ-loop
 returns c =
     let start = c .before .before .before in
     let bytes = start .args .table .now in
-    let ends = c .before .start-in .ensures ∙ start-is bytes (start .args .header) (start .pre) 6 in
+    let ends = c .before .start-in .ensures ∙ start-is bytes (start .args .header) (start .pre .is) 6 in
     length-bad bytes (λ e. c .if1 .taken (e ∙ sym ends))
-
-start-in-requires-2 : tie.Need-start-in-requires-2 Inv-loop μ-loop
-start-in-requires-2 c κs =
-    let start = c .before .before .before .before in
-    (few-rows (start .args .table .now) (start .args .header) (start .pre), omega arith)
 
 loop-holds : tie.Need-loop-holds Inv-loop μ-loop
 loop-holds c = (omega arith, omega arith, c .start-in2 .ensures, (λ j low h. absurd (omega arith)))
@@ -43,10 +35,10 @@ answer-in-requires c κs =
     let bytes = start .args .table .now in
     let header = start .args .header in
     let l = c .before .before .loop in (
-      c .before .before .before .before .version-in .ensures ∙ version-is bytes header (start .pre),
+      c .before .before .before .before .version-in .ensures ∙ version-is bytes header (start .pre .is),
       omega arith,
-      l .inv .2 ∙ start-is bytes header (start .pre) (l .s),
-      c .count-in .ensures ∙ count-is bytes header (start .pre) (l .s),
+      l .inv .2 ∙ start-is bytes header (start .pre .is) (l .s),
+      c .count-in .ensures ∙ count-is bytes header (start .pre .is) (l .s),
     )
 
 -- the table is as long as it has to be
@@ -54,7 +46,7 @@ exact : (c : tie.After-version-in Inv-loop μ-loop)
     → length (c .before .before .before .before .args .table .now) ≡ from (c .before .before .before .before .args .table .now) 6
 exact c =
     let start = c .before .before .before .before in
-    c .before .if1 .left ∙ c .before .before .start-in .ensures ∙ start-is (start .args .table .now) (start .args .header) (start .pre) 6
+    c .before .if1 .left ∙ c .before .before .start-in .ensures ∙ start-is (start .args .table .now) (start .args .header) (start .pre .is) 6
 
 returns-2 : tie.Need-returns-2 Inv-loop μ-loop
 returns-2 c =
@@ -65,16 +57,11 @@ returns-2 c =
     ∙ table-bad bytes (exact called) (l .s) (omega arith) (omega arith) (l .inv .3)
     (λ e. c .if2 .taken (ap (λ (x : Answer). x .number) (c .before .answer-in .ensures) ∙ e))
 
-bytes-of-requires : tie.Need-bytes-of-requires Inv-loop μ-loop
-bytes-of-requires c κs =
-    let start = c .before .before .before .before .before .before .before .before .before .before in
-    (few-rows (start .args .table .now) (start .args .header) (start .pre), omega arith)
-
 add-at : tie.Need-add-at Inv-loop μ-loop
 add-at c =
     let start = c .before .before .before .before .before .before .before .before .before .before .before in
     let header = start .args .header in
-    let few = few-rows (start .args .table .now) header (start .pre) in
+    let few = start .pre .few in
     let l = c .before .before .before .before .before .loop in
     omega (arith, bytes-most header few (l .s) (omega arith), starts-most header few (l .s) (omega arith))
 
@@ -101,15 +88,14 @@ answer-of-rows-spec =
     (tie.spec
     Inv-loop
     μ-loop
-    start-in-requires
-    returns
     (λ c κs. search needs)
-    start-in-requires-2
+    returns
+    (λ c κs. search needs) (λ c κs. search needs)
     loop-holds
     (λ c κs. search needs)
     answer-in-requires
     returns-2
-    bytes-of-requires
+    (λ c κs. search needs)
     add-at
     (λ c. search needs) (λ c. search needs)
     loop-again

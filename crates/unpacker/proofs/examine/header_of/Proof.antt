@@ -11,6 +11,7 @@ use Rattle.layout.specs.Rows.{rowAt}
 use Rattle.layout.specs.Contracts.{wide}
 use Rattle.layout.proofs.LayoutLaws.{header-size}
 use Rattle.table.specs.Sections.{headerRow}
+use Rattle.unpacker.proofs.PlaceLaws.{header-read}
 use borrow.Author.Needs.{needs}
 use Rattle.unpacker.proofs.examine.header_of.Statement.{statement}
 use Rattle.unpacker.proofs.examine.header_of.Tie as tie
@@ -22,13 +23,16 @@ slice-aggregate-row-at c =
 
 returns : tie.Need-returns
 unfolding headerRow
-returns c = c .row-at .ensures ∙ ap (λ (n : ℕ). wide (rowAt (take n (c .before .before .before .before .args .table .now)) 0 0)) (sym header-size)
+returns c =
+    let table = c .before .before .before .before .args .table .now in
+    header-read table _ (c .row-at .ensures ∙ ap (λ (n : ℕ). wide (rowAt (take n table) 0 0)) (sym header-size))
 
 returns-2 : tie.Need-returns-2
 unfolding headerRow
 returns-2 c =
-    let a = c .before .before .before .args in
-    c .row-at2 .ensures ∙ ap (λ (b : List ℕ). wide (rowAt b 0 0)) (sym (take-all (size 0) (a .table .now) (omega (arith, header-size))))
+    let table = c .before .before .before .args .table .now in
+    header-read table _
+    (c .row-at2 .ensures ∙ ap (λ (b : List ℕ). wide (rowAt b 0 0)) (sym (take-all (size 0) table (omega (arith, header-size)))))
 
 pub header-of-spec : {M : Type 1} → statement M
 header-of-spec =

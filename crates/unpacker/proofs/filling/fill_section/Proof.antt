@@ -8,7 +8,6 @@ use lib.ListN.{length}
 use Rattle.table.specs.Sections.{records, lent}
 use Rattle.layout.proofs.LayoutLaws.{listed-some}
 use Rattle.unpacker.proofs.SectionParts.{nothing-fits, fitting-is, fits-here}
-use Rattle.unpacker.proofs.PlaceLaws.{few-rows}
 use borrow.Author.Needs.{needs}
 use Rattle.unpacker.proofs.filling.fill_section.Statement.{statement}
 use Rattle.unpacker.proofs.filling.fill_section.Tie as tie
@@ -25,11 +24,6 @@ returns-2 c =
 
 div-fewer : tie.Need-div-fewer
 div-fewer c = rw (c .numbers-in .ensures) (listed-some _ (omega arith))
-
-start-in-requires : tie.Need-start-in-requires
-start-in-requires c κs =
-    let read = c .before .before .before .before in
-    (few-rows (read .before .before .before .before .before .args .table .now) _ (read .header-of .ensures), omega arith)
 
 fill-requires : tie.Need-fill-requires
 fill-requires c κs =
@@ -62,8 +56,7 @@ fill-section-spec =
     returns-2
     (λ c κs. search needs) (λ c κs. search needs) (λ c κs. search needs)
     div-fewer
-    (λ c κs. search needs) (λ c κs. search needs)
-    start-in-requires
+    (λ c κs. search needs) (λ c κs. search needs) (λ c κs. search needs)
     fill-requires
     (λ c. search needs)
     returns-3)
