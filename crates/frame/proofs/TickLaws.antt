@@ -7,13 +7,9 @@ use native.Mathlib.Omega.{arith}
 use lib.Dec.{leb}
 use borrow.Author.Tests.{le-leb, leb-true}
 use Rattle.base.proofs.Tests.{same-test}
-use Rattle.frame.specs.Tick.{perMs, perByte, perUnit, sendBase, sendLimit, longest, inTime, sendsInTime}
+use Rattle.frame.specs.Tick.{perByte, perUnit, sendBase, sendLimit, longest, inTime, sendsInTime}
 use Rattle.frame.specs.declared.Speed.{Speed}
 use Rattle.frame.specs.declared.Speed.the-variants.{Mbit100, Mbit10}
-
-pub per-ms-is : perMs ≡ 12500
-unfolding perMs
-per-ms-is = refl
 
 -- a unit of the table is a tick
 pub per-unit-is : (n : ℕ) → perUnit * n ≡ n

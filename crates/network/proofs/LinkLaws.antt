@@ -49,10 +49,6 @@ module _ (link : Link) where
   unfolding lineTicks leastTicks
   least-ticks = rw (on-line-is leastLine, least-line-is)
 
-  pub spread-ticks : (lmax : ℕ) → spreadTicks link lmax ≡ (largestLine lmax - 84) * link .perbyte
-  unfolding spreadTicks
-  spread-ticks lmax = rw (on-line-is (largestLine lmax), on-line-is leastLine, least-line-is)
-
   -- ---- the largest frame of a VL
   -- most less least is 01's (20 + Lmax − 84) × ticks per byte
   pub most-is : (lmax : ℕ) → leastLine ≤ largestLine lmax → mostTicks link lmax ≡ leastTicks link + spreadTicks link lmax

@@ -1,6 +1,6 @@
 -- The hops on a port: exactly the rows that name it, each once, ascending; and no more than there are VLs, since no two of them are of one VL.
 -- Assumes nothing.
-use Prim.Native.Nat.{ℕ, _≤_, _<_}
+use Prim.Native.Nat.{ℕ, _<_}
 use mathlib.Core.List.{List·Memᴰ}
 use mathlib.Core.Path.{_≡_, sym, _∙_}
 use borrow.Author.Tests.{eq-eqb, eqb-true}
@@ -8,7 +8,7 @@ use lib.Dec.{eqb}
 use lib.ListN.{length, getD}
 use Rattle.base.proofs.Members.{Place, member-at}
 use Rattle.base.proofs.Pigeon.{few-by}
-use Rattle.base.proofs.TabulateLaws.{passing-member, member-passing, passing-place, length-passing, passing-ascends, passing-once}
+use Rattle.base.proofs.TabulateLaws.{passing-member, member-passing, passing-place, passing-ascends, passing-once}
 use Rattle.network.specs.Network.{Network, hopAt}
 use Rattle.network.specs.Views.{hopsOn}
 use Rattle.network.specs.ReferenceFacts.{References, Few-hops-on-a-port}
@@ -42,10 +42,6 @@ module _ (net : Network) (p : ℕ) where
   pub on-port-once : (j k : ℕ) → j < length (hopsOn net p) → k < length (hopsOn net p) → getD (hopsOn net p) j 0 ≡ getD (hopsOn net p) k 0 → j ≡ k
   unfolding hopsOn
   on-port-once j k hj hk e = passing-once (λ h. eqb (hopAt net h .port) p) (length (net .hops)) j k hj hk e
-
-  pub no-more-than-hops : length (hopsOn net p) ≤ length (net .hops)
-  unfolding hopsOn
-  no-more-than-hops = length-passing (λ h. eqb (hopAt net h .port) p) (length (net .hops))
 
   -- ---- no two hops on a port are of one VL
   pub one-of-each-vl :

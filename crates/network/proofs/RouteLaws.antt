@@ -1,4 +1,5 @@
--- The route of a hop: each is followed by its parent, and where no reference is bad it is whole after 8 hops, on one VL, its ports falling. By induction on the hops that it may have.
+-- The route of a hop ends at one without parent. Where no reference is bad it is whole after 8 hops, on one VL, and no hop of it is later
+-- or on a higher port. By induction on the hops that it may have.
 -- Assumes nothing.
 use Prim.Native.Nat.{ℕ, zero, suc, _-_, _≤_, _<_}
 use mathlib.Core.Bool.{true, false, true≢false}
@@ -7,7 +8,6 @@ use mathlib.Core.Logic.{⊎-elim}
 use mathlib.Core.Option.{Option, none, some}
 use mathlib.Core.Path.{_≡_, refl, sym, ap, _∙_, subst}
 use native.Mathlib.Decide.{decLe}
-use native.Mathlib.Nat.{eq-or-lt-of-le, le-of-suc-le-suc}
 use native.Mathlib.Omega.{arith}
 use lib.ListN.{length, getD}
 use Rattle.base.proofs.Members.{member-at}
@@ -54,28 +54,6 @@ module _ (net : Network) where
   unfolding routeOf
   route-some zero h l = absurd (omega arith)
   route-some (suc n) h l = omega arith
-
-  pub route-first : (n h : ℕ) → 0 < n → getD (routeOf net n h) 0 0 ≡ h
-  unfolding routeOf
-  route-first zero h l = absurd (omega arith)
-  route-first (suc n) h l = refl
-
-  -- behind each stands its parent
-  pub route-next :
-      (n h i : ℕ) → suc i < length (routeOf net n h) → parentAt net (getD (routeOf net n h) i 0) ≡ some (getD (routeOf net n h) (suc i) 0)
-  unfolding routeOf
-  route-next zero h i l = absurd (omega arith)
-  route-next (suc n) h i l = route-by
-      (λ (r : List ℕ). suc i < length r → parentAt net (getD r i 0) ≡ some (getD r (suc i) 0)) n h
-      (λ e k. absurd (omega arith))
-      (λ g e k. go g e (λ j. route-next n g j) i k)
-      l
-    where
-      go : (g : ℕ) → parentAt net h ≡ some g
-          → ((j : ℕ) → suc j < length (routeOf net n g) → parentAt net (getD (routeOf net n g) j 0) ≡ some (getD (routeOf net n g) (suc j) 0))
-          → (i : ℕ) → suc i < suc (length (routeOf net n g)) → parentAt net (getD (h ∷ routeOf net n g) i 0) ≡ some (getD (routeOf net n g) i 0)
-      go g e ih zero k = e ∙ ap some (sym (route-first n g (omega (arith, route-short n g))))
-      go g e ih (suc j) k = ih j (omega arith)
 
   -- ---- a route that is no longer than n: the last of n hops has no parent, and more hops do not change it
   not-longer-some : (n h : ℕ) → routeLonger net n h ≡ false → 0 < n
@@ -186,24 +164,3 @@ module _ (net : Network) (refs : References net) where
     route-of-parent g e =
         let rest = sym (child-longer net 7 h g e) ∙ refs .not-deep h l in
         route-of-child net 7 h g e ∙ ap (λ (r : List ℕ). h ∷ r) (sym (route-enough net 7 8 g rest (omega arith)))
-
-    -- rows and ports fall from hop to parent
-    pub route-falls :
-        (i : ℕ) → suc i < length (routeOf net 8 h)
-        → (getD (routeOf net 8 h) (suc i) 0 < getD (routeOf net 8 h) i 0)
-        × (hopAt net (getD (routeOf net 8 h) (suc i) 0) .port < hopAt net (getD (routeOf net 8 h) i 0) .port)
-    route-falls i k =
-        let next = route-next net 8 h i k in
-        let low = on-route-at i (omega arith) .row in
-        let here = getD (routeOf net 8 h) i 0 in
-        let above = getD (routeOf net 8 h) (suc i) 0 in
-        (refs .parent-earlier here above low next, refs .parent-port here above low next)
-
-    pub ports-fall :
-        (i j : ℕ) → i < j → j < length (routeOf net 8 h)
-        → hopAt net (getD (routeOf net 8 h) j 0) .port < hopAt net (getD (routeOf net 8 h) i 0) .port
-    ports-fall i zero a k = absurd (omega arith)
-    ports-fall i (suc j) a k = ⊎-elim
-        (λ (e : i ≡ j). rw e (route-falls j k .1))
-        (λ (b : i < j). omega (arith, ports-fall i j b (omega arith), route-falls j k .1))
-        (eq-or-lt-of-le (le-of-suc-le-suc a))

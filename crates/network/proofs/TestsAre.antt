@@ -1,7 +1,7 @@
 -- Each named test of a reference as the comparison that it is, also where it fails; and the first failing test of a row by what was tested.
 -- Assumes nothing.
 use Prim.Native.Nat.{ℕ, suc, _<_}
-use mathlib.Core.Bool.{Bool, true, false, _&&_, _||_, not}
+use mathlib.Core.Bool.{Bool, true, false, _||_, not}
 use mathlib.Core.List.{List, [], _∷_}
 use mathlib.Core.Option.{none, some, Option·map}
 use mathlib.Core.Path.{_≡_, refl, ap, _∙_}
@@ -38,10 +38,6 @@ module _ (net : Network) (i : ℕ) where
   pub names-port-is : namesPort net i ≡ ltb (hopAt net i .port) (length (net .ports))
   unfolding namesPort
   names-port-is = refl
-
-  pub twin-is : (g : ℕ) → twinOf net i g ≡ eqb (hopAt net g .vl) (hopAt net i .vl) && eqb (hopAt net g .port) (hopAt net i .port)
-  unfolding twinOf
-  twin-is g = refl
 
   pub one-sample-is : oneSample net i ≡ not (streamAt net i .sampling) || leb (packets (streamAt net i .size) (vlAt net (streamAt net i .vl) .lmax)) 1
   unfolding oneSample

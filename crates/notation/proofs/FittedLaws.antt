@@ -1,12 +1,12 @@
 -- Records in the room that is lent for them, one after the other: one that fits stands first, and where one does not fit none does.
 -- Assumes nothing.
-use Prim.Native.Nat.{ℕ, zero, suc, _+_, _-_, _*_, _/_, _≤_, _<_, min}
-use mathlib.Core.Path.{_≡_, refl, sym, ap, _∙_}
+use Prim.Native.Nat.{ℕ, _+_, _-_, _*_, _/_, _≤_, _<_}
+use mathlib.Core.Path.{_≡_, ap, _∙_}
 use mathlib.Core.List.{List, [], _∷_, _++_, append-assoc}
 use mathlib.Core.Logic.{_⊎_, inl, inr}
 use native.Mathlib.Omega.{arith}
-use native.Mathlib.Nat.{div-eq-of-lt, div-eq-sub-div, div-mul-le-self, zero-mul}
-use lib.ListN.{length, take, replicate, length-take, length-append}
+use native.Mathlib.Nat.{div-eq-of-lt, div-eq-sub-div, zero-mul}
+use lib.ListN.{length, replicate, length-append}
 use lib.Seq.{take-nil, take-append-add}
 use Rattle.notation.specs.Fitted.{held, fitted}
 
@@ -18,10 +18,6 @@ module _ (n room : ℕ) where
   pub fitted-none : fitted n room [] ≡ replicate room 0
   unfolding fitted
   fitted-none = let e : room - 0 ≡ room = omega arith in rw (held-none, e)
-
-  pub held-fits : (ns : List ℕ) → length (held n room ns) ≤ room
-  unfolding held
-  held-fits ns = omega (arith, length-take (room / n * n) ns, div-mul-le-self room n)
 
   -- where there is no room for a record
   pub held-full : (ns : List ℕ) → room < n → held n room ns ≡ []

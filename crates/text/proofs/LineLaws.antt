@@ -12,14 +12,6 @@ use Rattle.text.specs.Text.{decimal, spacedFrom, spaced, line, LineFits}
 use Rattle.text.specs.Refusal.{refused, refusal, RefusalFits}
 use Rattle.text.proofs.DecimalLaws.{length-decimal}
 
-pub spaced-from-none : spacedFrom [] ≡ []
-unfolding spacedFrom
-spaced-from-none = refl
-
-pub spaced-from-first : (n : ℕ) (ns : List ℕ) → spacedFrom (n ∷ ns) ≡ (32 ∷ decimal n) ++ spacedFrom ns
-unfolding spacedFrom
-spaced-from-first n ns = refl
-
 spaced-from-more : (ns : List ℕ) (n : ℕ) → spacedFrom (ns ++ (n ∷ [])) ≡ spacedFrom ns ++ (32 ∷ decimal n)
 unfolding spacedFrom
 spaced-from-more [] n = append-nil (32 ∷ decimal n)

@@ -12,11 +12,10 @@ use lib.ListN.{length}
 use lib.Seq.{drop-append-seam}
 use Rattle.text.specs.Text.{decimal, all, digit}
 use Rattle.text.proofs.DecimalLaws.{all-none, all-next, all-append, digit-was, digits-alone, spells-back}
-use Rattle.text.proofs.LineLaws.{spaced-from-none, spaced-from-first}
 use Rattle.words.specs.Words.{feed, hash, blank, before, inFront, splitAt, linesOf, wordsOf}
 use Rattle.words.specs.Places.{ends}
 use Rattle.words.specs.Printed.{inLine, inWord, isWord, areWords, areLines, lineFrom, lineOf, textOf}
-use Rattle.words.specs.Printed.{WordsBack, LinesBack, LastLineBack, WordsAreALine, NumberBack, NumbersAreWords}
+use Rattle.words.specs.Printed.{WordsBack, LinesBack, LastLineBack, WordsAreALine, NumberBack}
 use Rattle.words.proofs.PlaceLaws.{before-stop, before-go}
 use Rattle.words.proofs.SpelledLaws.{numeral-some}
 use Rattle.words.proofs.WordLaws.{no-words, split-on, skip-blank, word-first}
@@ -163,12 +162,3 @@ pub number-back : NumberBack
 number-back n h =
     let d = digits-alone n in
     (decimal-word n, numeral-some (decimal n) (d .0) (d .1) ∙ ap some (rw (spells-back n h) (omega arith)))
-
-pub numbers-are-words : NumbersAreWords
-unfolding areWords lineFrom
-numbers-are-words [] = (refl, sym spaced-from-none)
-numbers-are-words (n ∷ ns) =
-    let rest = numbers-are-words ns in (
-      rw (decimal-word n) (rest .0),
-      ap (λ (l : List ℕ). (32 ∷ decimal n) ++ l) (rest .1) ∙ sym (spaced-from-first n ns),
-    )

@@ -1,4 +1,4 @@
--- Two words that pass the test of being the same are equal, and a word is the same as itself; the test goes byte by byte from any place on.
+-- Two words that pass the test of being the same are equal; the test goes byte by byte from any place on.
 -- Assumes nothing.
 use Prim.Native.Nat.{ℕ, suc, _≤_, _<_}
 use mathlib.Core.Path.{_≡_, refl, ap}
@@ -9,11 +9,6 @@ use lib.Dec.{eqb}
 use lib.ListN.{length, drop, getD, drop-of-length-le}
 use lib.Seq.{drop-cons}
 use Rattle.words.specs.Words.{same}
-
-pub same-itself : (w : List ℕ) → same w w ≡ true
-unfolding same
-same-itself [] = refl
-same-itself (b ∷ w) = rw (eq-eqb b b refl) (same-itself w)
 
 pub same-was : (v w : List ℕ) → same v w ≡ true → v ≡ w
 unfolding same

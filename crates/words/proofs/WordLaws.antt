@@ -14,7 +14,7 @@ use lib.Seq.{drop-cons, take-all}
 use Rattle.base.specs.Pick.{pick}
 use Rattle.words.specs.Words.{feed, hash, blank, before, inFront, splitAt, present, linesOf, uncommented, wordsOf}
 use Rattle.words.specs.Places.{part, firstPlace, lineEnd, begins, ends, wordAt}
-use Rattle.words.specs.Found.{LinesStep, LinesLast, LineWithin, WordsStep, WordsLast, WordWithin}
+use Rattle.words.specs.Found.{LinesStep, LinesLast, LineWithin, WordsStep, WordsLast}
 use Rattle.words.proofs.PlaceLaws.{no-bytes, since, before-stop, before-go, before-again, part-rest}
 use Rattle.words.proofs.PlaceLaws.{part-before, part-from, first-from, first-to}
 
@@ -176,9 +176,3 @@ words-last text at end h =
     ∙ no-word rest
     (ap (before begins) (part-from begins text at end) ∙ before-again begins (part text at end))
     (no-bytes (before ends rest) (omega arith))
-
-pub word-within : WordWithin
-unfolding wordAt
-word-within text at end =
-    let from = firstPlace begins text at end in
-    (first-from begins text at end, first-from ends text from end, omega (arith, first-to begins text at end, first-to ends text from end))

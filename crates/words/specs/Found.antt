@@ -1,6 +1,6 @@
 -- The routines find every line of a text and every word of a line, one by one from the front, and nothing else.
 -- Assumes nothing.
-use Prim.Native.Nat.{ℕ, _+_, _≤_, _<_, min, max}
+use Prim.Native.Nat.{ℕ, _+_, _≤_, _<_, max}
 use mathlib.Core.Path.{_≡_}
 use mathlib.Core.List.{List, [], _∷_}
 use lib.ListN.{length, drop}
@@ -31,11 +31,3 @@ WordsStep =
 -- Where none is found, there is none.
 abbrev pub WordsLast : Type 0
 WordsLast = (text : List ℕ) (at end : ℕ) → wordAt text at end .to ≤ wordAt text at end .from → wordsOf (part text at end) ≡ []
-
--- A word stands within the part where it is looked for, and within the text. From a place past these there is none, and the place stays.
-abbrev pub WordWithin : Type 0
-WordWithin =
-    (text : List ℕ) (at end : ℕ)
-    → (at ≤ wordAt text at end .from)
-    × (wordAt text at end .from ≤ wordAt text at end .to)
-    × (wordAt text at end .to ≤ max at (min end (length text)))

@@ -3,9 +3,9 @@
 use Prim.Native.Nat.{ℕ, _<_, _^_}
 use mathlib.Core.Path.{_≡_}
 use mathlib.Core.Bool.{Bool, true, false, not, _&&_}
-use mathlib.Core.List.{List, [], _∷_, _++_, map}
+use mathlib.Core.List.{List, [], _∷_, _++_}
 use mathlib.Core.Option.{some}
-use Rattle.text.specs.Text.{decimal, spacedFrom, all}
+use Rattle.text.specs.Text.{decimal, all}
 use Rattle.words.specs.Words.{feed, linesOf, wordsOf, numeral}
 use Rattle.words.specs.Places.{ends}
 
@@ -64,10 +64,6 @@ WordsAreALine = (ws : List (List ℕ)) → areWords ws ≡ true → all inLine (
 -- A number in decimal is a word, and the number of that word.
 abbrev pub NumberBack : Type 0
 NumberBack = (n : ℕ) → n < 2 ^ 64 → (isWord (decimal n) ≡ true) × (numeral (decimal n) ≡ some n)
-
--- Numbers in decimal are words, and these words are printed as `text` prints the numbers.
-abbrev pub NumbersAreWords : Type 0
-NumbersAreWords = (ns : List ℕ) → (areWords (map decimal ns) ≡ true) × (lineFrom (map decimal ns) ≡ spacedFrom ns)
 
 -- A comment changes nothing of the words before it, and neither does the carriage return (13) that some texts have before a line feed.
 abbrev pub CommentPassed : Type 0
