@@ -7,6 +7,7 @@ use lib.Dec.{leb}
 use lib.ListN.{length}
 use Rattle.base.specs.Pick.{pick}
 use Rattle.base.specs.Tabulate.{tabulate}
+use Rattle.layout.specs.Layout.{headerNames}
 use Rattle.table.specs.Sections.{lent}
 use Rattle.table.specs.Lists.{Lists, listsBy, listFor}
 use Rattle.notation.specs.Meant.{textLines, versionIn, listIn}
@@ -18,7 +19,7 @@ use Rattle.parser.specs.Mistakes.{isFault, mistakeIn}
 -- how many lines each section may have by the room of its list: whole records; one of delays, where the version and they have room; and one
 -- of the version
 unfoldable pub mostFor : (ℕ → ℕ) → List ℕ
-mostFor room = pick (leb 5 (room 0)) 1 0 ∷ map (λ s. room s / fieldsOf s) (1 ∷ 2 ∷ 3 ∷ 4 ∷ 5 ∷ []) ++ (1 ∷ [])
+mostFor room = pick (leb (length headerNames) (room 0)) 1 0 ∷ map (λ s. room s / fieldsOf s) (1 ∷ 2 ∷ 3 ∷ 4 ∷ 5 ∷ []) ++ (1 ∷ [])
 
 -- the room of lent lists, by the section
 abbrev pub roomIn : Lists → ℕ → ℕ

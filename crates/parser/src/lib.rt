@@ -16,6 +16,7 @@ ghost use mathlib.Core.Path.{_≡_};
 ghost use lib.Dec.{leb};
 ghost use lib.ListN.{length, getD, replicate};
 ghost use Rattle.base.specs.Pick.{pick};
+ghost use Rattle.layout.specs.Layout.{headerNames};
 ghost use Rattle.table.specs.Lists.{lists};
 ghost use Rattle.notation.specs.Meant.{textLines, sectionIn};
 ghost use Rattle.notation.specs.Steps.{fieldsOf};
@@ -31,9 +32,9 @@ pub struct Parsed {
 
 // One line of delays, where the version and they have room.
 fn delay_lines(room: usize) -> usize
-    ensures { λ r. ⌜ r ≡ pick (leb 5 room) 1 0 ⌝ }
+    ensures { λ r. ⌜ r ≡ pick (leb (length headerNames) room) 1 0 ⌝ }
 {
-    if 5 <= room {
+    if sizes::HEADER_LIST <= room {
         return 1;
     }
     0
