@@ -4,13 +4,15 @@ use Prim.Native.Nat.{ℕ, _≤_, _<_}
 use mathlib.Core.Bool.{true, false, _&&_}
 use mathlib.Core.Option.{none, some}
 use mathlib.Core.List.{List}
-use mathlib.Core.Path.{_≡_, sym, ap₂, _∙_}
+use mathlib.Core.Path.{_≡_, sym, ap, ap₂, _∙_}
 use native.Mathlib.Omega.{arith}
 use borrow.Author.Tests.{lt-ltb, le-ltb, eq-eqb, ne-eqb}
-use lib.Dec.{eqb}
+use lib.Dec.{ltb, eqb}
 use lib.ListN.{length}
+use Rattle.network.specs.declared.Vl.{Vl}
+use Rattle.network.specs.declared.Stream.{Stream}
 use Rattle.network.specs.Network.{Network, vlAt, streamAt, hopAt, parentAt}
-use Rattle.network.specs.References.{hasHop, parentEarlier, twinOf, refFault}
+use Rattle.network.specs.References.{namesSystem, hasHop, streamNamesVl, namesSubLink, parentEarlier, twinOf, refFault}
 use Rattle.network.proofs.ReferenceTests.{has-hop}
 use Rattle.network.proofs.ReferenceLaws.{vl-row, stream-row}
 use Rattle.network.proofs.TestsAre.{names-system-is, stream-names-vl-is, names-sub-link-is, no-parent-earlier, parent-earlier-is, no-parent-same-vl, parent-same-vl-is, no-parent-lower, parent-lower-is, no-hop, vl-fails-0, vl-fails-1, stream-fails-0, stream-fails-1}
@@ -39,28 +41,41 @@ module _ (net : Network) where
     pub has-hop-no : ((h : ℕ) → h < length (net .hops) → hopAt net h .vl ≡ v → ⊥) → false ≡ hasHop net v
     has-hop-no apart = sym (no-hop net v apart)
 
-    pub vl-no-system : length (net .systems) ≤ vlAt net v .system → answer 5 2 v 0 ≡ rowAnswer net 2 v
-    vl-no-system l = sym (row-refused 2 v 0 (vl-fails-0 net v (names-system-is net v ∙ le-ltb _ _ l)))
+  -- as it was read
+  module _ (v : ℕ) (vl : Vl) (read : vl ≡ vlAt net v) where
+    system-tested : namesSystem net v ≡ ltb (vl .system) (length (net .systems))
+    system-tested = names-system-is net v ∙ ap (λ (x : Vl). ltb (x .system) (length (net .systems))) (sym read)
 
-    module _ (l : vlAt net v .system < length (net .systems)) where
+    pub vl-no-system : length (net .systems) ≤ vl .system → answer 5 2 v 0 ≡ rowAnswer net 2 v
+    vl-no-system l = sym (row-refused 2 v 0 (vl-fails-0 net v (system-tested ∙ le-ltb _ _ l)))
+
+    module _ (l : vl .system < length (net .systems)) where
       pub vl-no-hop : false ≡ hasHop net v → answer 5 2 v 1 ≡ rowAnswer net 2 v
-      vl-no-hop e = sym (row-refused 2 v 1 (vl-fails-1 net v (names-system-is net v ∙ lt-ltb _ _ l) (sym e)))
+      vl-no-hop e = sym (row-refused 2 v 1 (vl-fails-1 net v (system-tested ∙ lt-ltb _ _ l) (sym e)))
 
       pub vl-good : true ≡ hasHop net v → accepted ≡ rowAnswer net 2 v
-      vl-good e = sym (row-accepted 2 v (vl-row net v (names-system-is net v ∙ lt-ltb _ _ l) (sym e)))
+      vl-good e = sym (row-accepted 2 v (vl-row net v (system-tested ∙ lt-ltb _ _ l) (sym e)))
 
-  -- ---- streams
-  module _ (s : ℕ) where
-    pub stream-no-vl : length (net .vls) ≤ streamAt net s .vl → answer 5 3 s 0 ≡ rowAnswer net 3 s
-    stream-no-vl l = sym (row-refused 3 s 0 (stream-fails-0 net s (stream-names-vl-is net s ∙ le-ltb _ _ l)))
+  -- ---- streams, as they were read
+  module _ (s : ℕ) (stream : Stream) (read : stream ≡ streamAt net s) where
+    vl-tested : streamNamesVl net s ≡ ltb (stream .vl) (length (net .vls))
+    vl-tested = stream-names-vl-is net s ∙ ap (λ (x : Stream). ltb (x .vl) (length (net .vls))) (sym read)
 
-    module _ (named : streamAt net s .vl < length (net .vls)) where
-      pub stream-no-sub-link : vlAt net (streamAt net s .vl) .sublinks ≤ streamAt net s .sublink → answer 5 3 s 1 ≡ rowAnswer net 3 s
-      stream-no-sub-link l =
-          sym (row-refused 3 s 1 (stream-fails-1 net s (stream-names-vl-is net s ∙ lt-ltb _ _ named) (names-sub-link-is net s ∙ le-ltb _ _ l)))
+    pub stream-no-vl : length (net .vls) ≤ stream .vl → answer 5 3 s 0 ≡ rowAnswer net 3 s
+    stream-no-vl l = sym (row-refused 3 s 0 (stream-fails-0 net s (vl-tested ∙ le-ltb _ _ l)))
 
-      pub stream-good : streamAt net s .sublink < vlAt net (streamAt net s .vl) .sublinks → accepted ≡ rowAnswer net 3 s
-      stream-good l = sym (row-accepted 3 s (stream-row net s (stream-names-vl-is net s ∙ lt-ltb _ _ named) (names-sub-link-is net s ∙ lt-ltb _ _ l)))
+    module _ (named : stream .vl < length (net .vls)) (vl : Vl) (of : vl ≡ vlAt net (stream .vl)) where
+      sub-link-tested : namesSubLink net s ≡ ltb (stream .sublink) (vl .sublinks)
+      sub-link-tested =
+          names-sub-link-is net s
+          ∙ ap (λ (x : Stream). ltb (x .sublink) (vlAt net (x .vl) .sublinks)) (sym read)
+          ∙ ap (λ (x : Vl). ltb (stream .sublink) (x .sublinks)) (sym of)
+
+      pub stream-no-sub-link : vl .sublinks ≤ stream .sublink → answer 5 3 s 1 ≡ rowAnswer net 3 s
+      stream-no-sub-link l = sym (row-refused 3 s 1 (stream-fails-1 net s (vl-tested ∙ lt-ltb _ _ named) (sub-link-tested ∙ le-ltb _ _ l)))
+
+      pub stream-good : stream .sublink < vl .sublinks → accepted ≡ rowAnswer net 3 s
+      stream-good l = sym (row-accepted 3 s (stream-row net s (vl-tested ∙ lt-ltb _ _ named) (sub-link-tested ∙ lt-ltb _ _ l)))
 
   -- ---- a hop's parent
   module _ (h : ℕ) where

@@ -24,21 +24,6 @@ abbrev μ-loop : tie.MeasureT-loop
 loop-holds : tie.Need-loop-holds Inv-loop μ-loop
 loop-holds c = (omega arith, sym (wide-start []))
 
-mul-convert-field : tie.Need-mul-convert-field Inv-loop μ-loop
-mul-convert-field c = omega (arith, few-fields (c .before .before .before .before .args .kind))
-
-array-read-convert-field : tie.Need-array-read-convert-field Inv-loop μ-loop
-array-read-convert-field c = omega (arith, few-fields (c .before .before .before .before .args .kind))
-
-convert-field-requires : tie.Need-convert-field-requires Inv-loop μ-loop
-convert-field-requires c κs = rw (c .shape-at .ensures) (narrow (c .before .before .before .before .args .kind) (c .before .before .loop .k))
-
-mul-out : tie.Need-mul-out Inv-loop μ-loop
-mul-out c = omega (arith, few-fields (c .before .before .before .before .before .before .args .kind))
-
-array-write-out : tie.Need-array-write-out Inv-loop μ-loop
-array-write-out c = omega (arith, few-fields (c .before .before .before .before .before .before .args .kind))
-
 loop-again : tie.Need-loop-again Inv-loop μ-loop
 loop-again c =
     let a = c .before .before .before .before .before .before .args in
@@ -62,12 +47,12 @@ converted-row-spec =
     (λ c κs. search needs)
     loop-holds
     (λ c κs. search needs)
-    mul-convert-field
-    array-read-convert-field
-    convert-field-requires
+    (λ c. omega (arith, few-fields (c .before .before .before .before .args .kind)))
+    (λ c. omega (arith, few-fields (c .before .before .before .before .args .kind)))
+    (λ c κs. rw (c .shape-at .ensures) (narrow (c .before .before .before .before .args .kind) (c .before .before .loop .k)))
     (λ c κs. search needs)
-    mul-out
-    array-write-out
+    (λ c. omega (arith, few-fields (c .before .before .before .before .before .before .args .kind)))
+    (λ c. omega (arith, few-fields (c .before .before .before .before .before .before .args .kind)))
     (λ c. search needs) (λ c. search needs)
     loop-again
     returns)

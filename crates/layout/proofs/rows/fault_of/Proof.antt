@@ -20,15 +20,6 @@ abbrev μ-loop : tie.MeasureT-loop
 loop-holds : tie.Need-loop-holds Inv-loop μ-loop
 loop-holds c = (omega arith, (λ i h. absurd (omega arith)))
 
-mul-convert-field : tie.Need-mul-convert-field Inv-loop μ-loop
-mul-convert-field c = omega (arith, few-fields (c .before .before .before .before .args .kind))
-
-array-read-convert-field : tie.Need-array-read-convert-field Inv-loop μ-loop
-array-read-convert-field c = omega (arith, few-fields (c .before .before .before .before .args .kind))
-
-convert-field-requires : tie.Need-convert-field-requires Inv-loop μ-loop
-convert-field-requires c κs = rw (c .shape-at .ensures) (narrow (c .before .before .before .before .args .kind) (c .before .before .loop .k))
-
 returns : tie.Need-returns Inv-loop μ-loop
 unfolding faultOf
 returns c =
@@ -62,9 +53,9 @@ fault-of-spec =
     (λ c κs. search needs)
     loop-holds
     (λ c κs. search needs)
-    mul-convert-field
-    array-read-convert-field
-    convert-field-requires
+    (λ c. omega (arith, few-fields (c .before .before .before .before .args .kind)))
+    (λ c. omega (arith, few-fields (c .before .before .before .before .args .kind)))
+    (λ c κs. rw (c .shape-at .ensures) (narrow (c .before .before .before .before .args .kind) (c .before .before .loop .k)))
     (λ c κs. search needs)
     returns
     (λ c. search needs) (λ c. search needs)

@@ -1,10 +1,7 @@
 -- `reader::references::stream_answer` meets its contract: each comparison decides one test.
 -- Assumes nothing.
-use mathlib.Core.Path.{ap, _∙_}
+use mathlib.Core.Path.{_∙_}
 use native.Mathlib.Omega.{arith}
-use Rattle.network.specs.declared.Vl.{Vl}
-use Rattle.network.specs.declared.Stream.{Stream}
-use Rattle.network.specs.Network.{vlAt}
 use Rattle.sheet.specs.Sheet.{networkOn}
 use Rattle.reader.proofs.ReferringLaws.{stream-no-vl, stream-no-sub-link, stream-good}
 use borrow.Author.Needs.{needs}
@@ -14,26 +11,22 @@ use Rattle.reader.proofs.references.stream_answer.Tie as tie
 returns : tie.Need-returns
 returns c =
     let a = c .before .before .before .before .before .args in
-    c .refuse .ensures
-    ∙ stream-no-vl (networkOn (a .net .now)) (a .s) (omega (arith, ap (λ (x : Stream). x .vl) (c .before .before .before .before .stream-at .ensures)))
+    let read = c .before .before .before .before .stream-at .ensures in
+    c .refuse .ensures ∙ stream-no-vl (networkOn (a .net .now)) (a .s) _ read (omega arith)
 
 returns-2 : tie.Need-returns-2
 returns-2 c =
     let a = c .before .before .before .before .before .before .before .before .before .args in
-    let stream = c .before .before .before .before .before .before .before .before .stream-at .ensures in
+    let read = c .before .before .before .before .before .before .before .before .stream-at .ensures in
     let vl = c .before .before .before .before .vl-at .ensures in
-    let links = ap (λ (x : Vl). x .sublinks) vl ∙ ap (λ (x : Stream). vlAt (networkOn (a .net .now)) (x .vl) .sublinks) stream in
-    c .refuse2 .ensures
-    ∙ stream-no-sub-link (networkOn (a .net .now)) (a .s) (omega (arith, ap (λ (x : Stream). x .vl) stream)) (omega (arith, ap (λ (x : Stream). x .sublink) stream, links))
+    c .refuse2 .ensures ∙ stream-no-sub-link (networkOn (a .net .now)) (a .s) _ read (omega arith) _ vl (omega arith)
 
 returns-3 : tie.Need-returns-3
 returns-3 c =
     let a = c .before .before .before .before .before .before .before .before .before .args in
-    let stream = c .before .before .before .before .before .before .before .before .stream-at .ensures in
+    let read = c .before .before .before .before .before .before .before .before .stream-at .ensures in
     let vl = c .before .before .before .before .vl-at .ensures in
-    let links = ap (λ (x : Vl). x .sublinks) vl ∙ ap (λ (x : Stream). vlAt (networkOn (a .net .now)) (x .vl) .sublinks) stream in
-    c .accept .ensures
-    ∙ stream-good (networkOn (a .net .now)) (a .s) (omega (arith, ap (λ (x : Stream). x .vl) stream)) (omega (arith, ap (λ (x : Stream). x .sublink) stream, links))
+    c .accept .ensures ∙ stream-good (networkOn (a .net .now)) (a .s) _ read (omega arith) _ vl (omega arith)
 
 pub stream-answer-spec : {M : Type 1} → statement M
 stream-answer-spec =

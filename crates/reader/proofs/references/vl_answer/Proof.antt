@@ -1,8 +1,7 @@
 -- `reader::references::vl_answer` meets its contract: the comparison and the search decide one test each.
 -- Assumes nothing.
-use mathlib.Core.Path.{sym, ap, _∙_}
+use mathlib.Core.Path.{sym, _∙_}
 use native.Mathlib.Omega.{arith}
-use Rattle.network.specs.declared.Vl.{Vl}
 use Rattle.sheet.specs.Sheet.{networkOn}
 use Rattle.reader.proofs.ReferringLaws.{vl-no-system, vl-no-hop, vl-good}
 use borrow.Author.Needs.{needs}
@@ -10,19 +9,24 @@ use Rattle.reader.proofs.references.vl_answer.Statement.{statement}
 use Rattle.reader.proofs.references.vl_answer.Tie as tie
 
 returns : tie.Need-returns
-returns c = let a = c .before .before .before .before .before .args in c .refuse .ensures ∙ vl-no-system (networkOn (a .net .now)) (a .v) (omega (arith, ap (λ (x : Vl). x .system) (c .before .before .before .before .vl-at .ensures)))
+returns c =
+    let a = c .before .before .before .before .before .args in
+    let read = c .before .before .before .before .vl-at .ensures in
+    c .refuse .ensures ∙ vl-no-system (networkOn (a .net .now)) (a .v) _ read (omega arith)
 
 returns-2 : tie.Need-returns-2
 returns-2 c =
     let a = c .before .before .before .before .before .before .before .args in
+    let read = c .before .before .before .before .before .before .vl-at .ensures in
     c .accept .ensures
-    ∙ vl-good (networkOn (a .net .now)) (a .v) (omega (arith, ap (λ (x : Vl). x .system) (c .before .before .before .before .before .before .vl-at .ensures))) (sym (c .before .if2 .taken) ∙ c .before .before .has-hop .ensures)
+    ∙ vl-good (networkOn (a .net .now)) (a .v) _ read (omega arith) (sym (c .before .if2 .taken) ∙ c .before .before .has-hop .ensures)
 
 returns-3 : tie.Need-returns-3
 returns-3 c =
     let a = c .before .before .before .before .before .before .before .args in
+    let read = c .before .before .before .before .before .before .vl-at .ensures in
     c .refuse2 .ensures
-    ∙ vl-no-hop (networkOn (a .net .now)) (a .v) (omega (arith, ap (λ (x : Vl). x .system) (c .before .before .before .before .before .before .vl-at .ensures))) (sym (c .before .if2 .left) ∙ c .before .before .has-hop .ensures)
+    ∙ vl-no-hop (networkOn (a .net .now)) (a .v) _ read (omega arith) (sym (c .before .if2 .left) ∙ c .before .before .has-hop .ensures)
 
 pub vl-answer-spec : {M : Type 1} → statement M
 vl-answer-spec =
