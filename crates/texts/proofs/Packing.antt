@@ -33,7 +33,7 @@ use Rattle.parser.specs.Mistakes.{isFault}
 use Rattle.parser.specs.Tables.{roomIn, firstMistake}
 use Rattle.texts.specs.declared.Packed.the-variants.{Mistaken, Answered}
 use Rattle.texts.specs.Texts.{textFor}
-use Rattle.texts.specs.Packing.{roomOf, blank, PacksTo, Packs-again}
+use Rattle.texts.specs.Packing.{roomOf, zeroLists, PacksTo, Packs-again}
 use Rattle.texts.proofs.SaidLaws.{said-back}
 use Rattle.texts.proofs.ReadLaws.{printed-is-read}
 
@@ -42,24 +42,24 @@ module _ (bytes : List ℕ) (ok : rowFault Reading 0 (headerRow bytes) ≡ none)
   unfolding capacity
   few-numbers s h = rw (length-list bytes s h) (mul-le-mul-right (listed (suc s)) (few bytes ok s h))
 
-  few-first : length (listFor (unpacked bytes) 0) ≤ roomIn blank 0
+  few-first : length (listFor (unpacked bytes) 0) ≤ roomIn zeroLists 0
   unfolding listFor unpacked
   few-first = omega (arith, length-header bytes)
 
-  long-enough : RoomFor (unpacked bytes) blank
+  long-enough : RoomFor (unpacked bytes) zeroLists
   long-enough zero = few-first
   long-enough (suc s) = go (decLt (suc s) 6)
     where
-      go : Dec (suc s < 6) → length (listFor (unpacked bytes) (suc s)) ≤ roomIn blank (suc s)
+      go : Dec (suc s < 6) → length (listFor (unpacked bytes) (suc s)) ≤ roomIn zeroLists (suc s)
       go (yes h) = rw (list-by (λ s. replicate (roomOf s) 0) (suc s) h, length-replicate) (few-numbers s h)
       go (no n) = rw (no-list (unpacked bytes) (suc s) (omega arith)) (omega arith)
 
 module _ (bytes : List ℕ) (n : Lists) (b : Bytes bytes) (e : unpackAnswer bytes n ≡ accepted) (room : ℕ)
     (long : length bytes ≤ room) where
-  no-fault : isFault (firstMistake (textFor (unpacked bytes)) blank .fault) ≡ false
+  no-fault : isFault (firstMistake (textFor (unpacked bytes)) zeroLists .fault) ≡ false
   unfolding isFault
   no-fault =
-      ap isFault (printed-is-read (unpacked bytes) room (write-after-unpack bytes n b e room long .0) blank
+      ap isFault (printed-is-read (unpacked bytes) room (write-after-unpack bytes n b e room long .0) zeroLists
       (long-enough bytes (unpack-was bytes n e .header)))
 
   is-written : writes (unpacked bytes) room ≡ true

@@ -25,15 +25,15 @@ roomOf zero = length headerNames
 roomOf (suc s) = capacity (suc s)
 
 -- the lists themselves, as they are before: of zeros
-abbrev pub blank : Lists
-blank = listsBy (λ s. replicate (roomOf s) 0)
+abbrev pub zeroLists : Lists
+zeroLists = listsBy (λ s. replicate (roomOf s) 0)
 
 -- on a mistake every lent byte is 0
 unfoldable pub PacksTo : List ℕ → List ℕ → Packed → List ℕ → Type 0
 PacksTo text before (Mistaken m) after =
-    (isFault (firstMistake text blank .fault) ≡ true) × (m ≡ firstMistake text blank) × (after ≡ replicate (length before) 0)
+    (isFault (firstMistake text zeroLists .fault) ≡ true) × (m ≡ firstMistake text zeroLists) × (after ≡ replicate (length before) 0)
 PacksTo text before (Answered w) after =
-    (isFault (firstMistake text blank .fault) ≡ false) × Writes (said text) (length before) w after
+    (isFault (firstMistake text zeroLists .fault) ≡ false) × Writes (said text) (length before) w after
 
 -- Unpacked and printed, a table that the unpacker accepts is packed again to the same bytes, with zeros behind, by any routine that keeps
 -- `PacksTo` and is lent enough of them.

@@ -11,7 +11,7 @@ use Rattle.layout.specs.Fields.{isPadding}
 use Rattle.layout.specs.Rows.{listed, listedIn}
 use Rattle.layout.specs.Sizes.{capacity}
 use Rattle.table.specs.Lists.{listFor}
-use Rattle.texts.specs.Packing.{blank, PacksTo}
+use Rattle.texts.specs.Packing.{zeroLists, PacksTo}
 use Rattle.texts.proofs.PackLaws.{no-mistake, a-mistake, list-within, said-written}
 use Rattle.texts.proofs.pack.Statement.{statement}
 use Rattle.texts.proofs.pack.Tie as tie
@@ -22,7 +22,7 @@ write-first-requires c κs =
     let matched = c .before .before .before .before .before .before .before in
     let read = matched .before .before .before .before .before .before .before .before .before .before .read .ensures in
     let told = matched .enum-told .given .1 in
-    let within = list-within _ blank _ _ read (no-mistake _ blank _ _ read told) in (
+    let within = list-within _ zeroLists _ _ read (no-mistake _ zeroLists _ _ read told) in (
       within 0 (omega arith),
       within 1 (omega arith),
       within 2 (omega arith),
@@ -36,8 +36,8 @@ unfolding listFor PacksTo capacity mostIn listed listedIn isPadding kindOf kinds
 returns c =
     let matched = c .before .before .before .before .before .before .before .before .before .before in
     let read = matched .before .before .before .before .before .before .before .before .before .before .read .ensures in
-    let good = no-mistake _ blank _ _ read (matched .enum-told .given .1) in
-    (good, said-written _ blank _ _ read good _ _ _ (c .before .before .write-first .ensures))
+    let good = no-mistake _ zeroLists _ _ read (matched .enum-told .given .1) in
+    (good, said-written _ zeroLists _ _ read good _ _ _ (c .before .before .write-first .ensures))
 
 -- the tags of the faults
 others : List ℕ
@@ -48,7 +48,8 @@ unfolding PacksTo others capacity mostIn listed listedIn isPadding kindOf kindsO
 returns-2 c =
     let matched = c .before .before .before .before in
     let read = matched .before .before .before .before .before .before .before .before .before .read .ensures in
-    (a-mistake _ blank _ _ read (λ e. miss others 0 tt (rw e at (matched .match .keys2))), read .mistake, c .before .before .clear .ensures)
+    let found = a-mistake _ zeroLists _ _ read (λ e. miss others 0 tt (rw e at (matched .match .keys2))) in
+    (found, read .mistake, c .before .before .clear .ensures)
 
 pub pack-spec : {M : Type 1} → statement M
 pack-spec =
