@@ -45,7 +45,7 @@ then-11 (none ∷ os) o h = then-11 os o (h .1)
 then-11 (some a ∷ os) o h = rw (ne-eqb (a .number) 0 (omega (arith, h .0)))
 
 -- ---- the numbers of a section's list; behind section 5 there are none
-pub numbers-are : (bytes : List ℕ) (s : ℕ) → numbersOf s (getD (tabulate (rows bytes) 6) s 0) ≡ length (listFor (unpacked bytes) s)
+numbers-are : (bytes : List ℕ) (s : ℕ) → numbersOf s (getD (tabulate (rows bytes) 6) s 0) ≡ length (listFor (unpacked bytes) s)
 unfolding numbersOf
 numbers-are bytes zero = sym (ap length (list-is bytes 0 (omega arith)) ∙ length-header bytes)
 numbers-are bytes (suc s) = rw (ne-eqb (suc s) 0 (omega arith)) (go (decLt (suc s) 6))

@@ -42,10 +42,11 @@ bytesOf header section = countIn header section * size (kindOf (versionOf header
 abbrev pub startIn : List ℕ → ℕ → ℕ
 startIn header section = start (versionOf header) (countIn header) section
 
--- the header row of a table, as it is read: a count of rows has at most 12 bits
+-- a count of rows has at most 12 bits
 abbrev pub FewRows : (ℕ → ℕ) → Type 0
 FewRows count = (s : ℕ) → s < 6 → count s < 4096
 
+-- the header row of a table, as it is read
 pub record HeaderRead (bytes header : List ℕ) : Type 0 where
   pub is : header ≡ wide (headerRow bytes)
   pub few : FewRows (countIn header)

@@ -46,7 +46,9 @@ exact : (c : tie.After-version-in Inv-loop μ-loop)
     → length (c .before .before .before .before .args .table .now) ≡ from (c .before .before .before .before .args .table .now) 6
 exact c =
     let start = c .before .before .before .before in
-    c .before .if1 .left ∙ c .before .before .start-in .ensures ∙ start-is (start .args .table .now) (start .args .header) (start .pre .is) 6
+    c .before .if1 .left
+    ∙ c .before .before .start-in .ensures
+    ∙ start-is (start .args .table .now) (start .args .header) (start .pre .is) 6
 
 returns-2 : tie.Need-returns-2 Inv-loop μ-loop
 returns-2 c =

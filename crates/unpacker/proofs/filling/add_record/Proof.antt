@@ -28,7 +28,8 @@ returns c =
     let a = start .args in
     put .put-numbers .ensures
     ∙ record-added (a .table .now) (a .section) (a .version) (a .at) (a .i) _ _ (a .out .now) _ _ (start .pre)
-    (numbers .before .before .kind-of .ensures) (numbers .numbers-in .ensures) (read .raw-row .ensures) (numbers .before .converted-row .ensures)
+    (numbers .before .before .kind-of .ensures) (numbers .numbers-in .ensures) (read .raw-row .ensures)
+    (numbers .before .converted-row .ensures)
 
 pub add-record-spec : {M : Type 1} → statement M
 add-record-spec =

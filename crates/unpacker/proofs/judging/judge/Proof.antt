@@ -13,7 +13,9 @@ use Rattle.unpacker.proofs.judging.judge.Tie as tie
 
 -- the rows that the header row counts
 counts : (c : tie.After-counts-in) → c .counts-in .result ≡ tabulate (rows (c .before .before .args .table .now)) 6
-counts c = let start = c .before .before in c .counts-in .ensures ∙ counts-are (start .args .table .now) (start .args .header) (start .pre .is)
+counts c =
+    let start = c .before .before in
+    c .counts-in .ensures ∙ counts-are (start .args .table .now) (start .args .header) (start .pre .is)
 
 is-short-requires : tie.Need-is-short-requires
 is-short-requires c κs = counts-few (c .before .before .before .args .table .now) _ (counts (c .before))
