@@ -29,12 +29,12 @@ use Rattle.layout.specs.Layout.{layout, blank, widths}
 use Rattle.layout.specs.Fields.{convert}
 use Rattle.base.specs.Tests.{isSome}
 use Rattle.layout.specs.Contracts.{wide, withRowAt}
-use Rattle.layout.specs.Rows.{converted, rowRoom, rowAt}
-use Rattle.layout.proofs.AnswerLaws.{refusal-of, value-of}
+use Rattle.layout.specs.Rows.{rowRoom, rowAt}
+use Rattle.layout.proofs.AnswerLaws.{refusal-of}
 use Rattle.layout.proofs.FaultLaws.{GoodTo}
 use Rattle.layout.proofs.LayoutLaws.{widths-at, length-widths}
 use Rattle.layout.proofs.RoomLaws.{field-room, row-there, put-there}
-use Rattle.layout.proofs.RowLaws.{converted-at, wide-more}
+use Rattle.layout.proofs.RowLaws.{wide-more}
 
 -- ---- an array filled number by number
 pub filled-more : (row out : List ℕ) (k v : ℕ) → length row ≤ 11 → k < length row → out ≡ wide (take k row) → v ≡ getD row k 0 → set out k v ≡ wide (take (k + 1) row)
@@ -43,16 +43,12 @@ filled-more row out k v h l e f = rw (e, f) (wide-more row k h l)
 pub filled-all : (row out : List ℕ) (k : ℕ) → length row ≤ k → out ≡ wide (take k row) → out ≡ wide row
 filled-all row out k h e = e ∙ ap wide (take-all k row h)
 
--- ---- a number converted
+-- ---- a number tested
 module _ (way : Way) (kind : ℕ) (row : List ℕ) (k : ℕ) (s : Shape) (x : Reply) (is : s ≡ getD (layout kind) k blank)
     (told : said x ≡ ruled (convert way s (getD row k 0))) where
   by-shape : said x ≡ ruled (convert way (getD (layout kind) k blank) (getD row k 0))
   by-shape = rw is at told
 
-  pub number-more : (v : ℕ) → k < length (layout kind) → v ≡ getD (said x .values) 0 0 → v ≡ getD (converted way (layout kind) row) k 0
-  number-more v h e = e ∙ value-of x _ by-shape ∙ sym (converted-at way (layout kind) row k h)
-
-  -- ---- a number tested
   pub refused-here : eqb (said x .number) 4 ≡ true → isSome (convert way (getD (layout kind) k blank) (getD row k 0)) ≡ false
   refused-here e = not-true _ (sym (refusal-of x _ by-shape) ∙ e)
 

@@ -22,12 +22,14 @@ use Rattle.layout.proofs.orders.orders_in.Kinds as orders-kinds
 use Rattle.layout.proofs.orders.orders_in.Reads as orders-reads
 use Rattle.layout.proofs.orders.order_at.Kinds as order-kinds
 use Rattle.layout.proofs.orders.order_at.Reads as order-reads
-use Rattle.layout.proofs.rows.row_at.Kinds as row-kinds
-use Rattle.layout.proofs.rows.row_at.Reads as row-reads
+use Rattle.layout.proofs.rows.read_row.Kinds as row-kinds
+use Rattle.layout.proofs.rows.read_row.Reads as row-reads
 use Rattle.layout.proofs.rows.put_row.Kinds as put-kinds
 use Rattle.layout.proofs.rows.put_row.Reads as put-reads
 use Rattle.layout.proofs.rows.converted_row.Kinds as converted-kinds
 use Rattle.layout.proofs.rows.converted_row.Reads as converted-reads
+use Rattle.layout.proofs.rows.converted_number.Kinds as number-kinds
+use Rattle.layout.proofs.rows.converted_number.Reads as number-reads
 use Rattle.layout.proofs.rows.fault_of.Kinds as fault-kinds
 use Rattle.layout.proofs.rows.fault_of.Reads as fault-reads
 
@@ -55,14 +57,17 @@ orders κs a x y ws vs p q = (p ∙ sym q, refl)
 pub order : Settles 0 order-kinds.ps order-kinds.r order-reads.Post
 order κs a x y ws vs p q = (p ∙ sym q, refl)
 
-pub row : Settles 1 row-kinds.ps row-kinds.r row-reads.Post
-row κs a x y ws vs p q = (p ∙ sym q, refl)
+pub row : Settles 2 row-kinds.ps row-kinds.r row-reads.Post
+row κs a x y ws vs p q = (refl, (λ i. (tt, (tt, (tt, ((p ∙ sym q) i, tt))))))
 
 pub put : Settles 1 put-kinds.ps put-kinds.r put-reads.Post
 put κs a x y ws vs p q = (refl, (λ i. ((p ∙ sym q) i, (tt, (tt, (tt, tt))))))
 
-pub converted : Settles 0 converted-kinds.ps converted-kinds.r converted-reads.Post
+pub converted : Settles 1 converted-kinds.ps converted-kinds.r converted-reads.Post
 converted κs a x y ws vs p q = (p ∙ sym q, refl)
+
+pub number : Settles 0 number-kinds.ps number-kinds.r number-reads.Post
+number κs a x y ws vs p q = (p ∙ sym q, refl)
 
 -- a fault tells its test
 fault-settles : (x y : Fault) → faultOf x ≡ faultOf y → x ≡ y
@@ -72,5 +77,5 @@ fault-settles (Test i) Nothing e = absurd (Option·some-ne-none i e)
 fault-settles Nothing (Test j) e = absurd (Option·none-ne-some j e)
 fault-settles Nothing Nothing e = refl
 
-pub fault : Settles 0 fault-kinds.ps fault-kinds.r fault-reads.Post
+pub fault : Settles 1 fault-kinds.ps fault-kinds.r fault-reads.Post
 fault κs a x y ws vs p q = (fault-settles x y (p ∙ sym q), refl)

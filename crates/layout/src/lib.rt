@@ -15,10 +15,11 @@ pub use kinds::longest_table;
 pub use kinds::numbers_in;
 pub use orders::order_at;
 pub use orders::orders_in;
+pub use rows::converted_number;
 pub use rows::converted_row;
 pub use rows::fault_of;
 pub use rows::put_row;
-pub use rows::row_at;
+pub use rows::read_row;
 pub use shapes::shape_at;
 
 // What a stored field stands for.

@@ -69,8 +69,8 @@ pub fn order_at(kind: usize, k: usize) -> Order
 }
 
 // The first pair of fields that are not in order.
-pub fn order_fault(kind: usize, row: [u64; LONGEST]) -> Fault
-    ensures { λ r. ⌜ faultOf r ≡ orderFault kind row ⌝ }
+pub fn order_fault(kind: usize, row: &[u64; LONGEST]) -> Fault
+    ensures { λ r. ⌜ faultOf r ≡ orderFault kind (now (row .entry)) ⌝ }
 {
     match kind {
         0 => {

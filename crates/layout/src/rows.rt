@@ -9,15 +9,18 @@ use crate::shapes;
 use crate::sizes::LONGEST;
 use bits::Cursor;
 ghost use mathlib.Core.Path.{_≡_};
-ghost use Rattle.layout.specs.Layout.{layout, widths};
+ghost use lib.ListN.{getD};
+ghost use Rattle.base.specs.Tests.{numberOr0};
+ghost use Rattle.layout.specs.Layout.{layout, blank, widths};
+ghost use Rattle.layout.specs.Fields.{convert};
 ghost use Rattle.layout.specs.Rows.{rowRoom, rowAt, converted, rowFault};
 ghost use Rattle.layout.specs.Contracts.{withRowAt, wide, faultOf};
 
-// The stored numbers of a record that begins at bit `at`; zeros where the table has no such record.
-pub fn row_at(table: &[u8], at: usize, kind: usize) -> [u64; LONGEST]
-    ensures { λ r. ⌜ r ≡ wide (rowAt (now (table .entry)) at kind) ⌝ }
+// Reads the stored numbers of a record that begins at bit `at` to a lent row; zeros where the table has no such record.
+pub fn read_row(table: &[u8], at: usize, kind: usize, row: &mut [u64; LONGEST])
+    ensures { λ _. ⌜ now (row .exit) ≡ wide (rowAt (now (table .entry)) at kind) ⌝ }
 {
-    let mut row = [0u64; LONGEST];
+    *row = [0u64; LONGEST];
     if has_row(table.len(), at, kind) {
         let n = kinds::fields_in(kind);
         let mut c = Cursor::new(at);
@@ -30,7 +33,6 @@ pub fn row_at(table: &[u8], at: usize, kind: usize) -> [u64; LONGEST]
             k += 1;
         }
     }
-    row
 }
 
 // Writes the stored numbers of a record that begins at bit `at`; nothing where there is no such record.
@@ -64,23 +66,29 @@ fn has_row(n: usize, at: usize, kind: usize) -> bool
 }
 
 // The row's numbers converted, 0 where one is out of range.
-pub fn converted_row(way: Way, kind: usize, row: [u64; LONGEST]) -> [u64; LONGEST]
-    ensures { λ r. ⌜ r ≡ wide (converted way (layout kind) row) ⌝ }
+pub fn converted_row(way: Way, kind: usize, row: &[u64; LONGEST]) -> [u64; LONGEST]
+    ensures { λ r. ⌜ r ≡ wide (converted way (layout kind) (now (row .entry))) ⌝ }
 {
     let n = kinds::fields_in(kind);
     let mut out = [0u64; LONGEST];
     let mut k = 0;
     while k < n {
-        let s = shapes::shape_at(kind, k);
-        out[k] = fields::value_or_0(fields::convert_field(way, s, row[k]));
+        out[k] = converted_number(way, kind, k, row[k]);
         k += 1;
     }
     out
 }
 
+// The number of field k converted, 0 where it is out of range.
+pub fn converted_number(way: Way, kind: usize, k: usize, n: u64) -> u64
+    ensures { λ r. ⌜ r ≡ numberOr0 (convert way (getD (layout kind) k blank) n) ⌝ }
+{
+    fields::value_or_0(fields::convert_field(way, shapes::shape_at(kind, k), n))
+}
+
 // The first test of a row that fails.
-pub fn fault_of(way: Way, kind: usize, row: [u64; LONGEST]) -> Fault
-    ensures { λ r. ⌜ faultOf r ≡ rowFault way kind row ⌝ }
+pub fn fault_of(way: Way, kind: usize, row: &[u64; LONGEST]) -> Fault
+    ensures { λ r. ⌜ faultOf r ≡ rowFault way kind (now (row .entry)) ⌝ }
 {
     let n = kinds::fields_in(kind);
     let mut k = 0;

@@ -41,7 +41,7 @@ fn meaning(kind: usize, k: usize, code: u64) -> u64 {
     }
     let mut row = [0u64; LONGEST];
     row[k] = code;
-    let meant = layout::converted_row(Way::Reading, kind, row);
+    let meant = layout::converted_row(Way::Reading, kind, &row);
     meant[k]
 }
 

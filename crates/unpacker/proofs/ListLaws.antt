@@ -13,9 +13,8 @@ use Rattle.layout.specs.Names.{numberOf, indexIn}
 use Rattle.layout.specs.Layout.{layoutIn, layout, kindOf, headerNames}
 use Rattle.layout.specs.Contracts.{wide}
 use Rattle.layout.specs.Rows.{named, converted, listed}
-use Rattle.layout.proofs.LayoutLaws.{listed-fields, listed-same, few-fields, listed-most}
-use Rattle.layout.proofs.ReadLaws.{part-wide}
-use Rattle.layout.proofs.RowLaws.{wide-at, length-wide, length-converted, converted-wide}
+use Rattle.layout.proofs.LayoutLaws.{listed-fields, listed-same, listed-most}
+use Rattle.layout.proofs.RowLaws.{wide-at, length-converted, converted-wide}
 use Rattle.table.specs.Sections.{headerRow, version, kindIn, row, recordOf, records, lent}
 use Rattle.table.specs.Lists.{headerOf}
 use Rattle.unpacker.specs.Unpacking.{Filling, Adding, written, headerIn}
@@ -53,29 +52,25 @@ module _ (bytes : List ℕ) (s : ℕ) where
   abbrev k : ℕ
   k = kindIn bytes s
 
-  records-more : (i n : ℕ) (raw vs : List ℕ) → raw ≡ wide (row bytes s i) → vs ≡ wide (converted Reading (layout k) raw) → (i + 1) * listed s ≤ n
+  records-more : (i n : ℕ) (raw vs : List ℕ) → raw ≡ wide (row bytes s i) → vs ≡ converted Reading (layout k) raw → (i + 1) * listed s ≤ n
       → written (lent n (records bytes s i)) (i * listed s) vs (listed s) ≡ lent n (records bytes s (i + 1))
   unfolding records recordOf
   records-more i n raw vs e f h =
       let meant = converted Reading (layout k) (row bytes s i) in
       let long = length-converted Reading (layout k) (row bytes s i) in
-      let same : vs ≡ wide meant =
-      f ∙ ap (λ (r : List ℕ). wide (converted Reading (layout k) r)) e ∙ ap wide (converted-wide Reading (layout k) (row bytes s i)) in
+      let same : vs ≡ meant = f ∙ ap (converted Reading (layout k)) e ∙ converted-wide Reading (layout k) (row bytes s i) in
       let fits = listed-fields k .0 in
       let numbers = listed-same (version bytes) s in
-      let few = few-fields k in
-      let w = length-wide meant (omega arith) in
       rw (add-one i, same)
-      (written-lent n (records bytes s i) (i * listed s) (wide meant) (listed s) (length-records bytes s i) (omega arith) (omega arith)
-      ∙ ap (λ (r : List ℕ). lent n (records bytes s i ++ r)) (part-wide meant 0 (listed s) (omega arith)))
+      (written-lent n (records bytes s i) (i * listed s) meant (listed s) (length-records bytes s i) (omega arith) (omega arith))
 
-  pub record-added : (v a i m n : ℕ) (out raw vs : List ℕ) → Adding bytes v s a i out → m ≡ kindOf v s → n ≡ listed s → raw ≡ wide (row bytes s i)
-      → vs ≡ wide (converted Reading (layout m) raw) → written out (i * n) vs n ≡ lent (length out) (records bytes s (i + 1))
-  record-added v a i m n out raw vs p of-kind e f g =
+  pub record-added : (v a i m n : ℕ) (out raw : List ℕ) → Adding bytes v s a i out → m ≡ kindOf v s → n ≡ listed s → raw ≡ wide (row bytes s i)
+      → written out (i * n) (converted Reading (layout m) raw) n ≡ lent (length out) (records bytes s (i + 1))
+  record-added v a i m n out raw p of-kind e f =
       let is : m ≡ k = of-kind ∙ ap (λ (w : ℕ). kindOf w s) (p .names) in
       rw e
-      (ap (λ (l : List ℕ). written l (i * listed s) vs (listed s)) (p .has)
-      ∙ records-more i (length out) raw vs f (g ∙ ap (λ (x : ℕ). wide (converted Reading (layout x) raw)) is) (p .holds))
+      (ap (λ (l : List ℕ). written l (i * listed s) (converted Reading (layout m) raw) (listed s)) (p .has)
+      ∙ records-more i (length out) raw _ f (ap (λ (x : ℕ). converted Reading (layout x) raw) is) (p .holds))
 
   -- ---- where the list was cleared and the first i records were put
   module _ (v a i n : ℕ) (entry cleared out : List ℕ) (p : Filling bytes v s a n (length entry)) (zeros : cleared ≡ replicate (length entry) 0)

@@ -56,7 +56,7 @@ pub fn header_list(table: &[u8]) -> [u64; HEADER_LIST]
 pub(crate) fn header_numbers(header: [u64; LONGEST]) -> [u64; HEADER_LIST]
     ensures { λ r. ⌜ r ≡ headerIn header ⌝ }
 {
-    let row = layout::converted_row(Way::Reading, 0, header);
+    let row = layout::converted_row(Way::Reading, 0, &header);
     [
         row[places::VERSION],
         row[places::SEND_LEAST],
@@ -110,10 +110,13 @@ pub(crate) fn start_in(header: [u64; LONGEST], section: usize) -> usize
 pub(crate) fn header_of(table: &[u8]) -> [u64; LONGEST]
     ensures { λ r. ⌜ HeaderRead (now (table .entry)) r ⌝ }
 {
+    let mut row = [0u64; LONGEST];
     if HEADER_BYTES <= table.len() {
-        return layout::row_at(&table[..HEADER_BYTES], 0, 0);
+        layout::read_row(&table[..HEADER_BYTES], 0, 0, &mut row);
+        return row;
     }
-    layout::row_at(table, 0, 0)
+    layout::read_row(table, 0, 0, &mut row);
+    row
 }
 
 fn none_given() -> Answer
@@ -140,7 +143,7 @@ pub(crate) fn answer_of(table: &[u8], header: [u64; LONGEST]) -> Answer
             test: 0,
         };
     }
-    let fault = layout::fault_of(Way::Reading, 0, header);
+    let fault = layout::fault_of(Way::Reading, 0, &header);
     match fault {
         Fault::Test(test) => Answer {
             number: 2,
@@ -202,8 +205,9 @@ fn answer_at(table: &[u8], version: u64, section: usize, at: usize, i: usize) ->
     requires { ⌜ RowPlace (now table) version section at i ⌝ }
     ensures { λ r. ⌜ r ≡ answerOf (now (table .entry)) section i ⌝ }
 {
-    let raw = raw_row(table, version, section, at, i);
-    let fault = layout::fault_of(Way::Reading, layout::kind_of(version, section), raw);
+    let mut raw = [0u64; LONGEST];
+    read_row(table, version, section, at, i, &mut raw);
+    let fault = layout::fault_of(Way::Reading, layout::kind_of(version, section), &raw);
     match fault {
         Fault::Test(test) => Answer {
             number: 4,
@@ -215,17 +219,18 @@ fn answer_at(table: &[u8], version: u64, section: usize, at: usize, i: usize) ->
     }
 }
 
-// The stored numbers of row i of a section that begins at byte `at`.
-pub(crate) fn raw_row(
+// Reads the stored numbers of row i of a section that begins at byte `at` to a lent row.
+pub(crate) fn read_row(
     table: &[u8],
     version: u64,
     section: usize,
     at: usize,
     i: usize,
-) -> [u64; LONGEST]
+    raw: &mut [u64; LONGEST],
+)
     requires { ⌜ RowPlace (now table) version section at i ⌝ }
-    ensures { λ r. ⌜ r ≡ wide (row (now (table .entry)) section i) ⌝ }
+    ensures { λ _. ⌜ now (raw .exit) ≡ wide (row (now (table .entry)) section i) ⌝ }
 {
     let kind = layout::kind_of(version, section);
-    layout::row_at(table, 8 * (at + i * layout::bytes_in(kind)), kind)
+    layout::read_row(table, 8 * (at + i * layout::bytes_in(kind)), kind, raw);
 }

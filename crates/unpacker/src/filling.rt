@@ -10,7 +10,9 @@ ghost use Prim.Native.Nat.{_+_, _≤_, min};
 ghost use lib.Dec.{eqb};
 ghost use lib.ListN.{length, replicate};
 ghost use Rattle.base.specs.Pick.{pick};
-ghost use Rattle.layout.specs.Layout.{headerNames};
+ghost use Rattle.layout.specs.declared.Way.the-variants.{Reading};
+ghost use Rattle.layout.specs.Layout.{layout, headerNames};
+ghost use Rattle.layout.specs.Rows.{converted};
 ghost use Rattle.table.specs.Sections.{records, lent};
 ghost use Rattle.unpacker.specs.Unpacking.{headerIn, fitting, Filling, Adding, written};
 
@@ -68,11 +70,23 @@ fn add_record(table: &[u8], version: u64, section: usize, at: usize, i: usize, o
     requires { ⌜ Adding (now table) version section at i (now out) ⌝ }
     ensures { λ _. ⌜ now (out .exit) ≡ lent (length (now (out .entry))) (records (now (table .entry)) section (i + 1)) ⌝ }
 {
-    let raw = examine::raw_row(table, version, section, at, i);
+    let mut raw = [0u64; LONGEST];
+    examine::read_row(table, version, section, at, i, &mut raw);
     let kind = layout::kind_of(version, section);
-    let row = layout::converted_row(Way::Reading, kind, raw);
     let n = layout::numbers_in(section);
-    put_numbers(out, i * n, n, &row);
+    put_record(out, i * n, n, kind, &raw);
+}
+
+// What the first n stored numbers of a row mean, from place `at` of the list on.
+fn put_record(out: &mut [u64], at: usize, n: usize, kind: usize, raw: &[u64; LONGEST])
+    requires { ⌜ (at + n ≤ length (now out)) × (n ≤ length (layout kind)) ⌝ }
+    ensures { λ _. ⌜ now (out .exit) ≡ written (now (out .entry)) at (converted Reading (layout kind) (now (raw .entry))) n ⌝ }
+{
+    let mut k = 0;
+    while k < n {
+        out[at + k] = layout::converted_number(Way::Reading, kind, k, raw[k]);
+        k += 1;
+    }
 }
 
 // The header's numbers, by the number of the unpacker's answer: nothing but zeros on a refusal.

@@ -39,7 +39,8 @@ fn put_record(list: &[u64], version: u64, section: usize, i: usize, at: usize, o
     ensures { λ _. ⌜ now (out .exit) ≡ putAll (now (out .entry)) (8 * at) (widths (kindOf version section)) (listStored version (now (list .entry)) section i) ⌝ }
 {
     let kind = layout::kind_of(version, section);
-    let raw = layout::converted_row(Way::Writing, kind, list_row(list, section, i));
+    let row = list_row(list, section, i);
+    let raw = layout::converted_row(Way::Writing, kind, &row);
     layout::put_row(out, 8 * at, kind, raw);
 }
 
@@ -72,7 +73,7 @@ fn put_header(
     ensures { λ r. ⌜ (r ≡ size 0) × (now (out .exit) ≡ putAll (now (out .entry)) 0 (widths 0) (converted Writing (layout 0) (headerFor (lists (now (header .entry)) (now (systems .entry)) (now (vls .entry)) (now (streams .entry)) (now (ports .entry)) (now (hops .entry)))))) ⌝ }
 {
     let row = header_row(header, systems, vls, streams, ports, hops);
-    let raw = layout::converted_row(Way::Writing, 0, row);
+    let raw = layout::converted_row(Way::Writing, 0, &row);
     layout::put_row(out, 0, 0, raw);
     layout::bytes_in(0)
 }

@@ -37,7 +37,8 @@ fn record_answer(list: &[u64], version: u64, section: usize, i: usize) -> Answer
     ensures { λ r. ⌜ r ≡ recordAnswer version (now (list .entry)) section i ⌝ }
 {
     let kind = layout::kind_of(version, section);
-    match layout::fault_of(Way::Writing, kind, list_row(list, section, i)) {
+    let row = list_row(list, section, i);
+    match layout::fault_of(Way::Writing, kind, &row) {
         Fault::Test(test) => Answer {
             number: 4,
             section: section as u64,
@@ -172,7 +173,7 @@ fn header_answer(
 {
     if all_whole(header, systems, vls, streams, ports, hops) {
         let row = header_row(header, systems, vls, streams, ports, hops);
-        return header_fault(layout::fault_of(Way::Writing, 0, row));
+        return header_fault(layout::fault_of(Way::Writing, 0, &row));
     }
     Answer {
         number: 2,

@@ -10,12 +10,12 @@ use Rattle.writer.proofs.put_header.Tie as tie
 
 returns : tie.Need-returns
 returns c =
-    let s = c .before .before .before .before .before .before .before .before .before .before .before .before .before .before in
+    let s = c .before .before .before .before .before .before .before .before .before .before .before .before .before .before .before in
     let a = s .args in
     let ls = lists (a .header .now) (a .systems .now) (a .vls .now) (a .streams .now) (a .ports .now) (a .hops .now) in (
       c .bytes-in .ensures,
       row-put (headerFor ls) 0 0 0 (a .out .now) _ _ _ (omega arith) (s .pre .1)
-          (c .before .before .before .before .before .before .header-row .ensures)
+          (c .before .before .before .before .before .before .before .header-row .ensures)
           (c .before .before .before .before .before .converted-row .ensures)
           (c .before .before .before .put-row .ensures),
     )

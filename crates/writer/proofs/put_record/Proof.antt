@@ -13,11 +13,11 @@ use Rattle.writer.proofs.put_record.Tie as tie
 returns : tie.Need-returns
 unfolding listStored
 returns c =
-    let s = c .before .before .before .before .before .before .before .before .before in
+    let s = c .before .before .before .before .before .before .before .before .before .before in
     let a = s .args in
-    let of-kind = c .before .before .before .before .before .before .kind-of .ensures in
+    let of-kind = c .before .before .before .before .before .before .before .kind-of .ensures in
     row-put (listRow (a .version) (a .list .now) (a .section) (a .i)) (kindOf (a .version) (a .section)) (a .at) (8 * a .at) (a .out .now) _ _ _ refl (s .pre .1)
-    (row-is (a .list .now) (a .section) (a .i) (s .pre .0) (a .version) _ (c .before .before .before .before .before .list-row .ensures))
+    (row-is (a .list .now) (a .section) (a .i) (s .pre .0) (a .version) _ (c .before .before .before .before .before .before .list-row .ensures))
     (rw of-kind at (c .before .before .before .before .converted-row .ensures))
     (rw of-kind at (c .before .before .put-row .ensures))
 

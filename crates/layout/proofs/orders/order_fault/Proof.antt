@@ -32,18 +32,18 @@ order-fault-spec =
     tie.close
     (tie.spec
     (λ c. search needs) (λ c. search needs)
-    (λ c. rw (c .before .match .keys1, not-in-order (c .before .before .args .t2) 6 7 (c .if1 .taken)) refl)
+    (λ c. rw (c .before .before .before .match .keys1, not-in-order (c .before .before .before .before .args .row .now) 6 7 (c .if1 .taken)) refl)
     (λ c. search needs) (λ c. search needs)
     (λ c.
-    let row = c .before .before .before .args .t2 in
-    rw (c .before .before .match .keys1, in-order row 6 7 (c .before .if1 .left), not-in-order row 8 9 (c .if2 .taken)) refl)
+    let row = c .before .before .before .before .before .before .before .args .row .now in
+    rw (c .before .before .before .before .before .before .match .keys1, in-order row 6 7 (c .before .before .before .if1 .left), not-in-order row 8 9 (c .if2 .taken)) refl)
     (λ c. search needs) (λ c. search needs)
-    (λ c. rw (c .before .match .keys2, not-in-order (c .before .before .args .t2) 4 3 (c .if3 .taken)) refl)
+    (λ c. rw (c .before .before .before .match .keys2, not-in-order (c .before .before .before .before .args .row .now) 4 3 (c .if3 .taken)) refl)
     (λ c. search needs) (λ c. search needs)
-    (λ c. rw (c .before .match .keys3, not-in-order (c .before .before .args .t2) 1 2 (c .if4 .taken)) refl)
+    (λ c. rw (c .before .before .before .match .keys3, not-in-order (c .before .before .before .before .args .row .now) 1 2 (c .if4 .taken)) refl)
     (λ c.
-    let row = c .before .before .before .args .t2 in
-    rw (c .before .before .match .keys1, in-order row 6 7 (c .before .if1 .left), in-order row 8 9 (c .if2 .left)) refl)
-    (λ c. rw (c .before .match .keys2, in-order (c .before .before .args .t2) 4 3 (c .if3 .left)) refl)
-    (λ c. rw (c .before .match .keys3, in-order (c .before .before .args .t2) 1 2 (c .if4 .left)) refl)
+    let row = c .before .before .before .before .before .before .before .args .row .now in
+    rw (c .before .before .before .before .before .before .match .keys1, in-order row 6 7 (c .before .before .before .if1 .left), in-order row 8 9 (c .if2 .left)) refl)
+    (λ c. rw (c .before .before .before .match .keys2, in-order (c .before .before .before .before .args .row .now) 4 3 (c .if3 .left)) refl)
+    (λ c. rw (c .before .before .before .match .keys3, in-order (c .before .before .before .before .args .row .now) 1 2 (c .if4 .left)) refl)
     (λ c. rw (no-orders (c .before .args .kind) (omega arith) (omega arith) (omega arith)) refl))

@@ -1,6 +1,6 @@
 -- `layout::rows::converted_row` meets its contract: after k turns the first k numbers stand in the array.
 -- Assumes nothing.
-use mathlib.Core.Path.{_≡_, sym}
+use mathlib.Core.Path.{_≡_, sym, _∙_}
 use Prim.Native.Nat.{_-_, _≤_}
 use native.Mathlib.Omega.{arith}
 use lib.ListN.{take}
@@ -8,9 +8,9 @@ use mathlib.Core.List.{[]}
 use Rattle.layout.specs.Layout.{layout}
 use Rattle.layout.specs.Contracts.{wide}
 use Rattle.layout.specs.Rows.{converted}
-use Rattle.layout.proofs.LayoutLaws.{few-fields, narrow}
-use Rattle.layout.proofs.RowLaws.{length-converted, wide-start}
-use Rattle.layout.proofs.TurnLaws.{filled-more, filled-all, number-more}
+use Rattle.layout.proofs.LayoutLaws.{few-fields}
+use Rattle.layout.proofs.RowLaws.{length-converted, converted-at, wide-start}
+use Rattle.layout.proofs.TurnLaws.{filled-more, filled-all}
 use borrow.Author.Needs.{needs}
 use Rattle.layout.proofs.rows.converted_row.Statement.{statement}
 use Rattle.layout.proofs.rows.converted_row.Tie as tie
@@ -26,17 +26,17 @@ loop-holds c = (omega arith, sym (wide-start []))
 
 loop-again : tie.Need-loop-again Inv-loop μ-loop
 loop-again c =
-    let a = c .before .before .before .before .before .before .args in
-    let l = c .before .before .before .before .loop in
-    let row = converted (a .way) (layout (a .kind)) (a .t3) in
-    let n = length-converted (a .way) (layout (a .kind)) (a .t3) in
-    let v = number-more (a .way) (a .kind) (a .t3) (l .k) _ _ (c .before .before .shape-at .ensures) (c .before .convert-field .ensures) _ (omega arith) (c .value-or-0 .ensures) in
+    let a = c .before .before .before .before .before .args in
+    let l = c .before .before .before .loop in
+    let row = converted (a .way) (layout (a .kind)) (a .row .now) in
+    let n = length-converted (a .way) (layout (a .kind)) (a .row .now) in
+    let v = c .converted-number .ensures ∙ sym (converted-at (a .way) (layout (a .kind)) (a .row .now) (l .k) (omega arith)) in
     (omega arith, filled-more row _ (l .k) _ (omega (arith, few-fields (a .kind))) (omega arith) (l .inv .1) v)
 
 returns : tie.Need-returns Inv-loop μ-loop
 returns c =
     let a = c .before .before .before .args in
-    filled-all _ _ (c .before .loop .k) (omega (arith, length-converted (a .way) (layout (a .kind)) (a .t3))) (c .before .loop .inv .1)
+    filled-all _ _ (c .before .loop .k) (omega (arith, length-converted (a .way) (layout (a .kind)) (a .row .now))) (c .before .loop .inv .1)
 
 pub converted-row-spec : {M : Type 1} → statement M
 converted-row-spec =
@@ -46,13 +46,11 @@ converted-row-spec =
     μ-loop
     (λ c κs. search needs)
     loop-holds
+    (λ c. omega (arith, few-fields (c .before .before .before .args .kind)))
+    (λ c. omega (arith, few-fields (c .before .before .before .args .kind)))
     (λ c κs. search needs)
-    (λ c. omega (arith, few-fields (c .before .before .before .before .args .kind)))
-    (λ c. omega (arith, few-fields (c .before .before .before .before .args .kind)))
-    (λ c κs. rw (c .shape-at .ensures) (narrow (c .before .before .before .before .args .kind) (c .before .before .loop .k)))
-    (λ c κs. search needs)
-    (λ c. omega (arith, few-fields (c .before .before .before .before .before .before .args .kind)))
-    (λ c. omega (arith, few-fields (c .before .before .before .before .before .before .args .kind)))
+    (λ c. omega (arith, few-fields (c .before .before .before .before .before .args .kind)))
+    (λ c. omega (arith, few-fields (c .before .before .before .before .before .args .kind)))
     (λ c. search needs) (λ c. search needs)
     loop-again
     returns)

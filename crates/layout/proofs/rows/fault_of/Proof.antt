@@ -23,26 +23,26 @@ loop-holds c = (omega arith, (λ i h. absurd (omega arith)))
 returns : tie.Need-returns Inv-loop μ-loop
 unfolding faultOf
 returns c =
-    let a = c .before .before .before .before .before .before .before .args in
-    let l = c .before .before .before .before .before .loop in
+    let a = c .before .before .before .before .before .before .before .before .args in
+    let l = c .before .before .before .before .before .before .loop in
     sym
-    (fault-field (a .way) (a .kind) (a .t3) (l .k) (omega arith) (l .inv .1)
-    (refused-here (a .way) (a .kind) (a .t3) (l .k) _ _ (c .before .before .before .shape-at .ensures) (c .before .before .convert-field .ensures)
+    (fault-field (a .way) (a .kind) (a .row .now) (l .k) (omega arith) (l .inv .1)
+    (refused-here (a .way) (a .kind) (a .row .now) (l .k) _ _ (c .before .before .before .before .shape-at .ensures) (c .before .before .convert-field .ensures)
     (sym (c .before .is-refused .ensures) ∙ c .if1 .taken)))
 
 loop-again : tie.Need-loop-again Inv-loop μ-loop
 loop-again c =
-    let a = c .before .before .before .before .before .before .before .args in
-    let l = c .before .before .before .before .before .loop in (
+    let a = c .before .before .before .before .before .before .before .before .args in
+    let l = c .before .before .before .before .before .before .loop in (
       omega arith,
-      good-more (a .way) (a .kind) (a .t3) (l .k) _ _ (c .before .before .before .shape-at .ensures) (c .before .before .convert-field .ensures) (l .inv .1)
+      good-more (a .way) (a .kind) (a .row .now) (l .k) _ _ (c .before .before .before .before .shape-at .ensures) (c .before .before .convert-field .ensures) (l .inv .1)
           (sym (c .before .is-refused .ensures) ∙ c .if1 .left),
     )
 
 returns-2 : tie.Need-returns-2 Inv-loop μ-loop
 returns-2 c =
     let a = c .before .before .before .before .args in
-    c .order-fault .ensures ∙ sym (fault-order (a .way) (a .kind) (a .t3) (λ i h. c .before .before .loop .inv .1 i (omega arith)))
+    c .order-fault .ensures ∙ sym (fault-order (a .way) (a .kind) (a .row .now) (λ i h. c .before .before .loop .inv .1 i (omega arith)))
 
 pub fault-of-spec : {M : Type 1} → statement M
 fault-of-spec =
@@ -55,7 +55,7 @@ fault-of-spec =
     (λ c κs. search needs)
     (λ c. omega (arith, few-fields (c .before .before .before .before .args .kind)))
     (λ c. omega (arith, few-fields (c .before .before .before .before .args .kind)))
-    (λ c κs. rw (c .shape-at .ensures) (narrow (c .before .before .before .before .args .kind) (c .before .before .loop .k)))
+    (λ c κs. rw (c .before .shape-at .ensures) (narrow (c .before .before .before .before .before .args .kind) (c .before .before .before .loop .k)))
     (λ c κs. search needs)
     returns
     (λ c. search needs) (λ c. search needs)

@@ -10,18 +10,18 @@ use Rattle.unpacker.proofs.examine.answer_at.Tie as tie
 
 returns : tie.Need-returns
 returns c =
-    let start = c .before .before .before .before .before .before .before in
+    let start = c .before .before .before .before .before .before .before .before .before in
     let a = start .args in
-    let of-kind = c .before .before .before .before .kind-of .ensures ∙ ap (λ (w : ℕ). kindOf w (a .section)) (start .pre .names) in
-    test-told (a .table .now) (a .section) (a .i) _ _ _ (c .before .before .before .before .before .raw-row .ensures) of-kind (c .before .before .before .fault-of .ensures) _ (c .before .fault .given .1)
+    let of-kind = c .before .before .before .before .before .kind-of .ensures ∙ ap (λ (w : ℕ). kindOf w (a .section)) (start .pre .names) in
+    test-told (a .table .now) (a .section) (a .i) _ _ _ (c .before .before .before .before .before .before .read-row .ensures) of-kind (c .before .before .before .fault-of .ensures) _ (c .before .fault .given .1)
 
 returns-2 : tie.Need-returns-2
 returns-2 c =
-    let start = c .before .before .before .before .before .before .before in
+    let start = c .before .before .before .before .before .before .before .before .before in
     let a = start .args in
-    let of-kind = c .before .before .before .before .kind-of .ensures ∙ ap (λ (w : ℕ). kindOf w (a .section)) (start .pre .names) in
+    let of-kind = c .before .before .before .before .before .kind-of .ensures ∙ ap (λ (w : ℕ). kindOf w (a .section)) (start .pre .names) in
     c .none-given .ensures
-    ∙ nothing-told (a .table .now) (a .section) (a .i) _ _ _ (c .before .before .before .before .before .raw-row .ensures) of-kind (c .before .before .before .fault-of .ensures) (c .before .enum-told .given .1)
+    ∙ nothing-told (a .table .now) (a .section) (a .i) _ _ _ (c .before .before .before .before .before .before .read-row .ensures) of-kind (c .before .before .before .fault-of .ensures) (c .before .enum-told .given .1)
 
 pub answer-at-spec : {M : Type 1} → statement M
 answer-at-spec =

@@ -12,16 +12,16 @@ returns c = too-short (c .before .before .args .table .now) (omega arith)
 
 returns-2 : tie.Need-returns-2
 returns-2 c =
-    let start = c .before .before .before .before .before .before in
+    let start = c .before .before .before .before .before .before .before in
     let bytes = start .args .table .now in
-    let long = c .before .before .before .before .if1 .left in
+    let long = c .before .before .before .before .before .if1 .left in
     header-bad bytes (omega arith) _ _ (start .pre .is) (c .before .before .before .fault-of .ensures) _ (c .before .fault .given .1)
 
 returns-3 : tie.Need-returns-3
 returns-3 c =
-    let start = c .before .before .before .before .before .before in
+    let start = c .before .before .before .before .before .before .before in
     let bytes = start .args .table .now in
-    let long = c .before .before .before .before .if1 .left in
+    let long = c .before .before .before .before .before .if1 .left in
     c .answer-of-rows .ensures
     ∙ header-good bytes (omega arith) _ _ (start .pre .is) (c .before .before .before .fault-of .ensures) (c .before .enum-told .given .1)
 

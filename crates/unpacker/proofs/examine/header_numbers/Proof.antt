@@ -6,7 +6,7 @@ use Rattle.unpacker.proofs.examine.header_numbers.Statement.{statement}
 use Rattle.unpacker.proofs.examine.header_numbers.Tie as tie
 
 returns : tie.Need-returns
-returns c = header-five (c .before .args .header) _ (c .converted-row .ensures)
+returns c = header-five (c .before .before .args .t1) _ (c .converted-row .ensures)
 
 pub header-numbers-spec : {M : Type 1} → statement M
 header-numbers-spec =

@@ -24,10 +24,10 @@ header-row-requires c κs = whole-header (ls (c .before .before .before .before 
 
 returns : tie.Need-returns
 returns c =
-    let l = ls (c .before .before .before .before .before .before .before .before .before .before .before) in
+    let l = ls (c .before .before .before .before .before .before .before .before .before .before .before .before) in
     c .header-fault .ensures
-    ∙ ap headerFault (c .before .fault-of .ensures ∙ ap (rowFault Writing 0) (c .before .before .header-row .ensures) ∙ fault-wide Writing 0 (headerFor l))
-    ∙ two-whole l (told (c .before .before .before .before) true (c .before .before .before .if1 .taken))
+    ∙ ap headerFault (c .before .fault-of .ensures ∙ ap (rowFault Writing 0) (c .before .before .before .header-row .ensures) ∙ fault-wide Writing 0 (headerFor l))
+    ∙ two-whole l (told (c .before .before .before .before .before) true (c .before .before .before .before .if1 .taken))
 
 returns-2 : tie.Need-returns-2
 returns-2 c = two-broken (ls (c .before .before .before .before .before .before .before .before)) (told (c .before) false (c .if1 .left))
