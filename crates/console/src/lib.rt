@@ -64,30 +64,6 @@ pub fn read_input(buf: &mut [u8]) -> Input
     read(STDIN_FILENO, buf)
 }
 
-fn read_opened(fd: i32, buf: &mut [u8]) -> Input
-    ensures { λ r. ⌜ Counted r (now (buf .exit)) ⌝ }
-{
-    if fd < 0 {
-        return Input::Failed;
-    }
-    let input = read(fd, buf);
-    libc::close(fd);
-    input
-}
-
-// Reads the file that argument i of the program names. An argument that is not there and a file that can't be opened count as a failed read.
-pub fn read_argument(i: usize, buf: &mut [u8]) -> Input
-    ensures { λ r. ⌜ Counted r (now (buf .exit)) ⌝ }
-{
-    let mut path = io::buffer();
-    let n = os::arg(i, &mut path);
-    if n == 0 {
-        return Input::Failed;
-    }
-    let fd = os::open_read(&path[..n]);
-    read_opened(fd, buf)
-}
-
 // Writes the first bytes of a text to standard output, and answers whether all of them went out. Of a text that has fewer none does.
 pub fn write_first(text: &[u8], used: usize) -> bool
     ensures { λ r. ⌜ (length (now (text .entry)) < used → r ≡ false) ⌝ }
