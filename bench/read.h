@@ -1,4 +1,4 @@
-/* A twin in C of crates/bits, crates/layout, crates/unpacker and crates/reader: a table unpacked bit by bit, 01's answers 1 to 6.
+/* A twin in C of crates/bits, crates/layout, crates/unpacker and crates/reader: a table unpacked field by field, 01's answers 1 to 6.
    As there, each row is read twice, to test it and to convert it, and the reader hands out the lists that it filled. */
 #ifndef READ_H
 #define READ_H
@@ -66,15 +66,16 @@ static int meaning(const Shape *s, uint64_t n, uint64_t *value)
     return 0;
 }
 
-/* The field of w bits from bit `at` on, one bit a turn; 0 where the table has none. */
+/* The field of w bits from bit `at` on: the bytes that it touches, cut at both ends; 0 where the table has none. */
 static uint64_t field(const uint8_t *table, size_t bytes, size_t at, size_t w)
 {
     uint64_t v = 0;
+    size_t end = at + w, to = (end + 7) / 8;
     if (8 * bytes < w || 8 * bytes - w < at)
         return 0;
-    for (size_t i = at; i < at + w; i++)
-        v = v * 2 + (table[i / 8] >> (7 - i % 8)) % 2;
-    return v;
+    for (size_t k = at / 8; k < to; k++)
+        v = v * 256 + table[k];
+    return (v >> (8 * to - end)) % ((uint64_t)1 << w);
 }
 
 /* The stored numbers of a section's row that begins at byte `from`; zeros where the table has no such row. */

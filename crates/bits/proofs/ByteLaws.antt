@@ -26,7 +26,7 @@ upper-bits s k (suc j) h l =
     let f : 7 - j + 1 ≡ 8 - j = omega arith in
     rw (upper-bits s k j h (omega arith), bit-of-byte s k j (omega arith), e, ← f, ← shr-shr (getD s k 0) (7 - j) 1) (omega arith)
 
-byte-field : (s : List ℕ) (k : ℕ) → getD s k 0 < 256 → fieldAt s (8 * k) 8 ≡ getD s k 0
+pub byte-field : (s : List ℕ) (k : ℕ) → getD s k 0 < 256 → fieldAt s (8 * k) 8 ≡ getD s k 0
 byte-field s k h = upper-bits s k 8 h (omega arith) ∙ div-one (getD s k 0)
 
 pub bytes-zero : (n : ℕ) → Bytes (replicate n 0)

@@ -4,6 +4,7 @@ pub mod FieldLaws
 pub mod RoomLaws
 pub mod ByteLaws
 pub mod RecordLaws
+pub mod CutLaws
 pub mod CarryLaws
 pub mod Unique
 pub mod RowLaws

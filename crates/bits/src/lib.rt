@@ -1,9 +1,9 @@
 // A bit cursor by value: fields of up to 32 bits are read from bytes and written to bytes, most significant bit first.
 // Every routine answers for all input: where the list has no such field, 0 is read, nothing is written, and the place stays.
 ghost use mathlib.Core.Path.{_≡_};
-ghost use Prim.Native.Nat.{_+_, _*_, _^_, _<_};
+ghost use Prim.Native.Nat.{_+_, _-_, _*_, _/_, _%_, _^_, _≤_, _<_};
 ghost use lib.ListN.{length};
-ghost use Rattle.bits.specs.Bits.{withDigit, bitAt, putBit, fieldAt, putAt};
+ghost use Rattle.bits.specs.Bits.{withDigit, putBit, fieldAt, putAt};
 ghost use Rattle.bits.specs.Place.{Room, room, nextPlace, fieldOf, putOf};
 
 // A place in a list of bytes, counted in bits.
@@ -51,21 +51,19 @@ impl Cursor {
         }
     }
 
-    // Reads where there is room, one bit a turn.
+    // Reads where there is room: the bytes that the field touches, without what stands before and behind it.
     fn take(self, s: &[u8], w: usize) -> Field
         requires { ⌜ Room (now s) (self .at) w ⌝ }
         ensures { λ r. ⌜ (r .value ≡ fieldAt (now (s .entry)) (self .at) w) × (r .next .at ≡ self .at + w) ⌝ }
     {
         let at = self.at;
-        let mut v: u64 = 0;
-        let mut i: usize = 0;
-        while i < w {
-            v = v * 2 + bit_at(s, at + i);
-            i += 1;
-        }
+        let end = at + w;
+        let to = (end + 7) / 8;
+        let v = gather(s, at / 8, to);
+        let behind = 7 - (end + 7) % 8;
         Field {
-            value: v,
-            next: Cursor { at: at + w },
+            value: v / weight(behind) % weight(w),
+            next: Cursor { at: end },
         }
     }
 
@@ -101,13 +99,18 @@ fn has_room(n: usize, at: usize, w: usize) -> bool
     at <= 8 * n - w
 }
 
-fn bit_at(s: &[u8], i: usize) -> u64
-    requires { ⌜ i < 8 * length (now s) ⌝ }
-    ensures { λ r. ⌜ r ≡ bitAt (now (s .entry)) i ⌝ }
+// The bytes from one to before another as one number: five at most, which is what a field of 32 bits touches.
+fn gather(s: &[u8], from: usize, to: usize) -> u64
+    requires { ⌜ (from ≤ to) × (to ≤ length (now s)) × (to ≤ from + 5) ⌝ }
+    ensures { λ r. ⌜ r ≡ fieldAt (now (s .entry)) (8 * from) (8 * (to - from)) ⌝ }
 {
-    let k = i / 8;
-    let p = 7 - i % 8;
-    ((s[k] >> p) % 2) as u64
+    let mut v: u64 = 0;
+    let mut k = from;
+    while k < to {
+        v = v * 256 + s[k] as u64;
+        k += 1;
+    }
+    v
 }
 
 fn put_bit(s: &mut [u8], i: usize, b: u64)
@@ -128,7 +131,7 @@ fn with_digit(x: u8, p: usize, b: u64) -> u8
 }
 
 fn weight(p: usize) -> u64
-    requires { ⌜ p < 8 ⌝ }
+    requires { ⌜ p < 64 ⌝ }
     ensures { λ r. ⌜ r ≡ 2 ^ p ⌝ }
 {
     1u64 << p

@@ -1,4 +1,4 @@
--- `bits::weight` meets its contract: a shift by less than 8 drops no bit.
+-- `bits::weight` meets its contract: a shift by less than 64 drops no bit of 1.
 -- Assumes nothing.
 use native.Mathlib.Omega.{arith}
 use lib.Pow.{pow-mono}
@@ -7,7 +7,7 @@ use Rattle.bits.proofs.weight.Statement.{statement}
 use Rattle.bits.proofs.weight.Tie as tie
 
 returns : tie.Need-returns
-returns c = omega (arith, pow-mono {i = c .args .p} {j = 7} (omega arith))
+returns c = omega (arith, pow-mono {i = c .args .p} {j = 63} (omega arith))
 
 pub weight-spec : {M : Type 1} → statement M
 weight-spec = tie.close (tie.spec (λ c. search needs) returns)
