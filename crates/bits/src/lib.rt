@@ -51,7 +51,7 @@ impl Cursor {
         }
     }
 
-    // Reads where there is room: the bytes that the field touches, without what stands before and behind it.
+    // Reads where there is room: the bytes that the field touches, without the bits that stand in them before and behind it.
     fn take(self, s: &[u8], w: usize) -> Field
         requires { ⌜ Room (now s) (self .at) w ⌝ }
         ensures { λ r. ⌜ (r .value ≡ fieldAt (now (s .entry)) (self .at) w) × (r .next .at ≡ self .at + w) ⌝ }

@@ -2,7 +2,7 @@
 // `layout` turns the stored numbers of a row to what they mean.
 use crate::examine;
 use layout::Way;
-use layout::sizes::HEADER_LIST;
+use layout::places;
 use layout::sizes::LONGEST;
 ghost use mathlib.Core.Path.{_≡_};
 ghost use mathlib.Core.List.{[]};
@@ -99,19 +99,11 @@ pub(crate) fn fill_header(header: [u64; LONGEST], number: u64, out: &mut [u64])
         return;
     }
     let numbers = examine::header_numbers(header);
-    put_numbers(out, 0, HEADER_LIST, &numbers);
-}
-
-// The first n numbers of a row, from place `at` of the list on.
-fn put_numbers(out: &mut [u64], at: usize, n: usize, row: &[u64])
-    requires { ⌜ (at + n ≤ length (now out)) × (n ≤ length (now row)) ⌝ }
-    ensures { λ _. ⌜ now (out .exit) ≡ written (now (out .entry)) at (now (row .entry)) n ⌝ }
-{
-    let mut k = 0;
-    while k < n {
-        out[at + k] = row[k];
-        k += 1;
-    }
+    out[places::LIST_VERSION] = numbers[places::LIST_VERSION];
+    out[places::LIST_SEND_LEAST] = numbers[places::LIST_SEND_LEAST];
+    out[places::LIST_SEND_GREATEST] = numbers[places::LIST_SEND_GREATEST];
+    out[places::LIST_RECEIVE_LEAST] = numbers[places::LIST_RECEIVE_LEAST];
+    out[places::LIST_RECEIVE_GREATEST] = numbers[places::LIST_RECEIVE_GREATEST];
 }
 
 // Zeros in every place of a lent list.

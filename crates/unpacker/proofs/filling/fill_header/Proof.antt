@@ -1,10 +1,12 @@
 -- `unpacker::filling::fill_header` meets its contract: the version and the delays of the header row, and a refusal writes none of them.
 -- Assumes nothing.
 use mathlib.Core.Path.{sym, _∙_}
+use Prim.Native.Nat.{_≤_}
 use native.Mathlib.Omega.{arith}
-use lib.ListN.{length}
+use lib.ListN.{length, length-set}
 use borrow.Author.Tests.{eq-eqb, ne-eqb}
 use Rattle.table.proofs.LentLaws.{lent-none}
+use Rattle.unpacker.specs.Unpacking.{written}
 use Rattle.unpacker.proofs.ListLaws.{cleared-length, header-put}
 use borrow.Author.Needs.{needs}
 use Rattle.unpacker.proofs.filling.fill_header.Statement.{statement}
@@ -16,24 +18,21 @@ returns c =
     let a = cleared .before .before .before .args in
     rw (ne-eqb (a .number) 0 (c .if1 .taken)) (cleared .clear .ensures ∙ sym (lent-none (length (a .out .now))))
 
-put-numbers-requires : tie.Need-put-numbers-requires
-put-numbers-requires c κs =
-    let cleared = c .before .before .before .before .before .before in
-    let start = cleared .before .before .before in
-    let long = start .pre (c .before .before .before .if1 .left) in
-    (omega (arith, cleared-length _ (length (start .args .out .now)) (cleared .clear .ensures)), omega arith)
+abbrev start : tie.After-header-numbers → tie.Start
+start c = c .before .before .before .before .before .before .before
+
+room : (c : tie.After-header-numbers) → 5 ≤ length (start c .args .out .now)
+room c = start c .pre (c .before .if1 .left)
+
+long : (c : tie.After-header-numbers) → 5 ≤ length (c .before .before .before .before .clear .last .0)
+long c = omega (arith, room c, cleared-length _ (length (start c .args .out .now)) (c .before .before .before .before .clear .ensures))
 
 returns-2 : tie.Need-returns-2
+unfolding written
 returns-2 c =
-    let put = c .before .before in
-    let told = put .before .before .before in
-    let cleared = told .before .before .before .before in
-    let start = cleared .before .before .before in
-    let a = start .args in
-    let accepted = told .before .if1 .left in
-    rw (eq-eqb (a .number) 0 accepted)
-    (put .put-numbers .ensures
-    ∙ header-put (a .header) _ _ (length (a .out .now)) (cleared .clear .ensures) (told .header-numbers .ensures) (start .pre accepted))
+    let a = start c .args in
+    rw (eq-eqb (a .number) 0 (c .before .if1 .left))
+    (header-put (a .header) _ _ (length (a .out .now)) (c .before .before .before .before .clear .ensures) (c .header-numbers .ensures) (room c))
 
 pub fill-header-spec : {M : Type 1} → statement M
 fill-header-spec =
@@ -41,7 +40,11 @@ fill-header-spec =
     (tie.spec
     (λ c κs. search needs) (λ c. search needs)
     returns
-    (λ c κs. search needs) (λ c. search needs)
-    put-numbers-requires
-    (λ c. search needs)
+    (λ c κs. search needs)
+    (λ c. search needs) (λ c. omega (arith, long c))
+    (λ c. search needs) (λ c. simp length-set (omega (arith, long c)))
+    (λ c. search needs) (λ c. simp length-set (omega (arith, long c)))
+    (λ c. search needs) (λ c. simp length-set (omega (arith, long c)))
+    (λ c. search needs) (λ c. simp length-set (omega (arith, long c)))
+    (λ c. simp length-set (search needs))
     returns-2)
