@@ -1,7 +1,8 @@
 #!/bin/sh
 # Tests everything: docs/CLAIMS.md names what is there, and docs/TABLE.md has the fields that run_fields prints; rt ci proves every crate
 # from nothing, tries the must-fail edits, runs the programs and compares; then the independent implementation still gives the committed
-# answers and agrees with pack and unpack on many texts, the suppliers' archives link and run, and the front command does what it says.
+# answers and agrees with pack and unpack on many texts and with an archive on every packet count, the suppliers' archives link and run,
+# and the front command does what it says.
 # Where all of it passed, the last line is rt ci's last line again, 'N passed, 0 failed'.
 set -eu
 unset CDPATH
@@ -38,6 +39,7 @@ held=$CARGO_TARGET_DIR/release/held
 "$held" answers <crates/run_items/stdin | cmp - crates/run_items/stdout
 examples/check "$held" rows
 tests/held/texts 400 1
+tests/held/packets
 examples/supplier/run
 tests/command/run
 

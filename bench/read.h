@@ -216,8 +216,8 @@ static int bad_hop(const Lists *l, size_t h)
 
 static uint64_t packets(uint64_t m, uint64_t lmax)
 {
-    uint64_t full = lmax - 47;
-    return (m + (full - 1)) / full;
+    uint64_t most = lmax - 39, spare = most % 8, full = most - spare;
+    return (m + (8 - spare) + (full - 1)) / full;
 }
 
 static Answer references(const Lists *l)

@@ -47,8 +47,9 @@ struct avulgjesh_rule_answer avulgjesh_line_of(avulgjesh_number payload);
    other is refused (4). */
 struct avulgjesh_rule_answer avulgjesh_largest_line(avulgjesh_number lmax);
 
-/* The packets of a message. "A message of M bytes on a VL of largest frame Lmax becomes p packets, p = M / (Lmax - 47)
-   rounded up (equation 4)." M is 1 to 8,192 and Lmax 64 to 1,518; any other is refused (4). */
+/* The packets that a message of M bytes becomes on a VL of largest frame Lmax. "With S = Lmax - 39 and C = S rounded down
+   to a multiple of 8, p is the least count with M + 8 at most (p - 1) x C + S." M is 1 to 8,192 and Lmax 64 to 1,518; any
+   other is refused (4). */
 struct avulgjesh_rule_answer avulgjesh_packets_of(avulgjesh_number m, avulgjesh_number lmax);
 
 /* The gap in ticks of a BAG code. "BAG codes 0 to 7 stand for these gaps in ticks: 12,500; 25,000; 50,000; 100,000;

@@ -50,7 +50,7 @@ static void frames(void)
     rule("largest line of Lmax 63", avulgjesh_largest_line(63), 4, 0);
     rule("packets of M 1471 at Lmax 1518", avulgjesh_packets_of(1471, 1518), 0, 1);
     rule("packets of M 1472 at Lmax 1518", avulgjesh_packets_of(1472, 1518), 0, 2);
-    rule("packets of M 100 at Lmax 64", avulgjesh_packets_of(100, 64), 0, 6);
+    rule("packets of M 100 at Lmax 64", avulgjesh_packets_of(100, 64), 0, 5);
     rule("packets of M 1 at Lmax 47", avulgjesh_packets_of(1, 47), 4, 0);
     rule("gap of code 7", avulgjesh_gap_of(7), 0, 1600000);
     rule("gap of code 8", avulgjesh_gap_of(8), 4, 0);

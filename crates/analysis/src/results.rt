@@ -82,7 +82,7 @@ fn queue_of(net: &[u64; SHEET], queues: &[u64; QUEUES], s: usize) -> u64
 // The gaps before the last packet of stream s's least message.
 fn gaps_of(net: &[u64; SHEET], s: usize) -> u64
     requires { ⌜ Good (now net) × (s < length (networkOn (now net) .streams)) ⌝ }
-    ensures { λ r. ⌜ (r ≡ gapsOf (networkOn (now (net .entry))) s) × (r ≤ 769600000) ⌝ }
+    ensures { λ r. ⌜ (r ≡ gapsOf (networkOn (now (net .entry))) s) × (r ≤ 545600000) ⌝ }
 {
     let stream = sheet::stream_at(net, s);
     let vl = sheet::vl_at(net, stream.vl);

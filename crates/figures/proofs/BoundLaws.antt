@@ -19,6 +19,7 @@ use Rattle.frame.specs.Frame.{leastLine, largestLine}
 use Rattle.frame.specs.Tick.{TickRules}
 use Rattle.frame.proofs.TickLaws.{longest-is}
 use Rattle.frame.proofs.FrameLaws.{largest-line-bounds}
+use Rattle.frame.proofs.PacketLaws.{mostPackets}
 use Rattle.layout.specs.Limits.{limits}
 use Rattle.network.specs.Link.{systemLink, portLink}
 use Rattle.network.proofs.LinkLaws.{most-some, most-bound}
@@ -138,7 +139,7 @@ module _ (net : Network) (ranges : Ranges net) (refs : References net) where
         period-high = stream .period-greatest;
         jitter-high = omega (arith, stream .jitter-greatest, ranges .send-greatest);
         cost-low = mul-le-mul {n₁ = 1} {m₁ = 1} (mul-le-mul {n₁ = 1} {m₁ = 1} (p .0) (vl .sub-links-least)) (omega (arith, vl .gap-least));
-        cost-high = le-trans (mul-le-mul {n₂ = 1928} {m₂ = 1600000} (mul-le-mul {n₂ = 482} {m₂ = 4} (p .1) (vl .sub-links-greatest)) (vl .gap-greatest)) (omega arith);
+        cost-high = le-trans (mul-le-mul {n₂ = mostPackets * 4} {m₂ = 1600000} (mul-le-mul {n₂ = mostPackets} {m₂ = 4} (p .1) (vl .sub-links-greatest)) (vl .gap-greatest)) (omega arith);
       }
 
   pub queue-offered : (v k : ℕ) → offered (queueFlows net v k) ≡ true

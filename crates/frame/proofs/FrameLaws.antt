@@ -7,7 +7,7 @@ use Prim.Native.Nat.{ℕ, _+_, _-_, _≤_, _<_, max}
 use native.Mathlib.Decide.{decLe}
 use native.Mathlib.Omega.{arith}
 use Rattle.base.proofs.Tests.{within-yes, within-below, within-above, within-not}
-use Rattle.frame.specs.Frame.{lineOverhead, protocolOverhead, leastFrame, greatestFrame, lineOf, lineBytes, leastLine, largestLine}
+use Rattle.frame.specs.Frame.{lineOverhead, protocolOverhead, leastFrame, greatestFrame, lineOf, leastLine, largestLine}
 use Rattle.frame.specs.Offered.{largestLineOf}
 
 -- ---- the numbers
@@ -54,10 +54,6 @@ unfolding lineOf protocolOverhead greatestFrame
 line-refused n = ⊎-elim
     (λ (e : n ≡ 0). rw (within-below 1 17 n (omega arith), within-below 18 1471 n (omega arith)))
     (λ (l : 1518 < 47 + n). rw (within-above 1 17 n (omega arith), within-above 18 1471 n (omega arith)))
-
-pub line-bytes : (n b : ℕ) → lineOf n ≡ some b → lineBytes n ≡ b
-unfolding lineBytes
-line-bytes n b e = rw (e, lineBytes)
 
 -- ---- the line size of a largest frame
 pub largest-line-is : (l : ℕ) → largestLine l ≡ 20 + l

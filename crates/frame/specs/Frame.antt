@@ -24,10 +24,6 @@ greatestFrame = 1518
 unfoldable pub lineOf : ℕ → Option ℕ
 lineOf payload = pick (within 1 17 payload) (some 84) (pick (within 18 1471 payload) (some (67 + payload)) none)
 
--- the same as a number of bytes, for a payload that is not refused
-unfoldable pub lineBytes : ℕ → ℕ
-lineBytes payload = elim (lineOf payload) [ none ↦ 0 | some b ↦ b ]
-
 -- the least that any frame occupies on the line: the 84 bytes of 01's best figure
 unfoldable pub leastLine : ℕ
 leastLine = lineOverhead + leastFrame

@@ -54,6 +54,12 @@ impl Frame {
 
     pub const PROTOCOL_OVERHEAD: u64 = 47;
 
+    // Of the protocol overhead, what only the first fragment of a message has.
+    pub const UDP_HEADER: u64 = 8;
+
+    // IP counts the places of fragments in units of 8 bytes, so that every fragment but the last has a multiple of them.
+    pub const FRAGMENT_UNIT: u64 = 8;
+
     pub const LEAST: u64 = 64;
 
     pub const GREATEST: u64 = 1_518;
@@ -88,15 +94,18 @@ pub fn largest_line(lmax: u64) -> Reply
     }
 }
 
-// The packets that a message of m bytes becomes on a VL of largest frame lmax.
+// The packets that a message of m bytes becomes on a VL of largest frame lmax. With its UDP header it goes into full fragments, and
+// the last one has room for what is spare beside them.
 pub fn packets_of(m: u64, lmax: u64) -> Reply
     ensures { λ r. ⌜ said r ≡ ruled (packetsOf m lmax) ⌝ }
 {
     match lmax {
         Frame::LEAST..=Frame::GREATEST => match m {
             1..=8192 => {
-                let full = lmax - Frame::PROTOCOL_OVERHEAD;
-                Reply::Value((m + (full - 1)) / full)
+                let most = lmax - (Frame::PROTOCOL_OVERHEAD - Frame::UDP_HEADER);
+                let spare = most % Frame::FRAGMENT_UNIT;
+                let full = most - spare;
+                Reply::Value((m + (Frame::UDP_HEADER - spare) + (full - 1)) / full)
             }
             _ => Reply::Refused,
         },

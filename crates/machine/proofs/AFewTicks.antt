@@ -8,11 +8,10 @@ use mathlib.Core.Path.{_≡_, refl}
 use native.Mathlib.Omega.{arith}
 use lib.Dec.{eqb}
 use Rattle.base.specs.Least.{leastFrom}
-use Rattle.base.specs.Round.{up}
 use Rattle.base.specs.Tabulate.{passing}
-use Rattle.base.specs.Tests.{isSome}
-use Rattle.frame.specs.Frame.{protocolOverhead, lineOf, lineBytes}
-use Rattle.frame.specs.Packets.{fullPacket, packets, cut, packetLines}
+use Rattle.base.specs.Tests.{isSome, numberOr0}
+use Rattle.frame.specs.Frame.{lineOverhead, leastFrame, leastLine}
+use Rattle.frame.specs.Packets.{udpHeader, mostFragment, fullFragment, carried, packets, cut, fragmentLine, packetLines}
 use Rattle.frame.specs.Tick.{inForce}
 use Rattle.network.specs.Link.{onLine, lineTicks}
 use Rattle.network.specs.declared.Parent.the-variants.{Root, After}
@@ -196,7 +195,7 @@ at-once = run-of one-release 0 (λ h. 0) 0 (λ t. cond (eqb t 0) (message-of 0 0
 
 -- a packet is handed over in the tick in which it comes to its queue
 pub in-its-tick : hands small 0 (at-once .choice 0) (state small at-once 0) 0 .got ≡ some packet
-unfolding state lineTicks onLine passing packetLines cut packets up fullPacket protocolOverhead lineBytes lineOf
+unfolding state lineTicks onLine passing packetLines cut packets numberOr0 leastFrom carried mostFragment fullFragment udpHeader fragmentLine leastLine lineOverhead leastFrame
 in-its-tick = refl
 
 pub there : complete small 168 (at-once .choice 168) (state small at-once 168) 0 ≡ frame 0 ∷ []
@@ -227,7 +226,7 @@ unfolding state lineTicks onLine
 queue-lands = refl
 
 pub port-0-lands : reaches two 87 (r .choice 87) (state two r 87) 0 ≡ record { frame = frame 2; hop = 0 } ∷ []
-unfolding state lineTicks onLine hopsOn passing vlsOf packetLines cut packets up fullPacket protocolOverhead lineBytes lineOf
+unfolding state lineTicks onLine hopsOn passing vlsOf packetLines cut packets numberOr0 leastFrom carried mostFragment fullFragment udpHeader fragmentLine leastLine lineOverhead leastFrame
 port-0-lands = refl
 
 -- hop 0 is a parent: what leaves it goes to hop 1, and to no destination
@@ -241,7 +240,7 @@ delivered-by-hop-1 = refl
 
 -- a switch delay of 10 ticks, where 9 is the greatest, is not permitted
 pub not-10 : PermittedBelow two (over-two 10) 87 → ⊥
-unfolding state lineTicks onLine passing vlsOf packetLines cut packets up fullPacket protocolOverhead lineBytes lineOf
+unfolding state lineTicks onLine passing vlsOf packetLines cut packets numberOr0 leastFrom carried mostFragment fullFragment udpHeader fragmentLine leastLine lineOverhead leastFrame
 not-10 p = omega (arith, p .flight-greatest 86 0 (frame 2) (omega arith) (omega arith) (List·Memᴰ·head refl))
 
 -- ---- one VL with two hops without parent: a frame that its end system has sent whole goes to both

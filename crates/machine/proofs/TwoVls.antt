@@ -7,10 +7,11 @@ use mathlib.Core.Path.{_≡_, refl, sym, ap, subst}
 use native.Mathlib.Nat.{le-refl}
 use native.Mathlib.Omega.{arith}
 use lib.Dec.{eqb}
-use Rattle.base.specs.Round.{up}
+use Rattle.base.specs.Least.{leastFrom}
 use Rattle.base.specs.Tabulate.{passing, total}
-use Rattle.frame.specs.Frame.{protocolOverhead, lineOf, lineBytes}
-use Rattle.frame.specs.Packets.{fullPacket, packets, cut, packetLines}
+use Rattle.base.specs.Tests.{numberOr0}
+use Rattle.frame.specs.Frame.{lineOverhead, leastFrame, leastLine}
+use Rattle.frame.specs.Packets.{udpHeader, mostFragment, fullFragment, carried, packets, cut, fragmentLine, packetLines}
 use Rattle.network.specs.Views.{hopsOn, vlsOf}
 use Rattle.station.specs.Station.{most}
 use Rattle.machine.specs.Sum.{span}
@@ -23,7 +24,7 @@ use Rattle.machine.proofs.AFewTicks.{pair, message-on, waiting, turn-ke
 
 -- the one order is in turn, as the VLs stand
 pub is-in-turn : InTurn pair turn-kept 1
-unfolding state passing vlsOf packetLines cut packets up fullPacket protocolOverhead lineBytes lineOf
+unfolding state passing vlsOf packetLines cut packets numberOr0 leastFrom carried mostFragment fullFragment udpHeader fragmentLine leastLine lineOverhead leastFrame
 is-in-turn zero e h = as-they-stand (eqb 0 e)
   where
     as-they-stand : (mine : Bool) → cond mine (waiting 0 ∷ waiting 1 ∷ []) []
@@ -34,7 +35,7 @@ is-in-turn (suc t) e h = absurd (omega arith)
 
 -- the other is not, and is permitted
 pub not-in-turn : InTurn pair turn-passed 1 → ⊥
-unfolding state passing vlsOf packetLines cut packets up fullPacket protocolOverhead lineBytes lineOf
+unfolding state passing vlsOf packetLines cut packets numberOr0 leastFrom carried mostFragment fullFragment udpHeader fragmentLine leastLine lineOverhead leastFrame
 not-in-turn h = omega (arith, ap first-name (h 0 0 (omega arith)))
   where
     first-name : List (Lane Frame) → ℕ
@@ -42,7 +43,7 @@ not-in-turn h = omega (arith, ap first-name (h 0 0 (omega arith)))
     first-name (l ∷ ls) = l .name
 
 pub is-permitted : PermittedBelow pair turn-passed 1
-unfolding state passing vlsOf hopsOn packetLines cut packets up fullPacket protocolOverhead lineBytes lineOf span most total
+unfolding state passing vlsOf hopsOn packetLines cut packets numberOr0 leastFrom carried mostFragment fullFragment udpHeader fragmentLine leastLine lineOverhead leastFrame span most total
 is-permitted = record {
   sized = sized;
   rule = rule;

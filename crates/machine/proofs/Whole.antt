@@ -9,12 +9,11 @@ use native.Mathlib.Omega.{arith}
 use lib.Dec.{leb, leb→le}
 use lib.ListN.{length}
 use Rattle.base.specs.Least.{leastFrom}
-use Rattle.base.specs.Round.{up}
 use Rattle.base.specs.Tabulate.{passing, total}
 use Rattle.base.specs.Tests.{isSome, numberOr0, firstFailing}
 use Rattle.base.proofs.Every.{at}
-use Rattle.frame.specs.Frame.{lineOverhead, protocolOverhead, leastFrame, leastLine, largestLine}
-use Rattle.frame.specs.Packets.{fullPacket, packets}
+use Rattle.frame.specs.Frame.{lineOverhead, leastFrame, leastLine, largestLine}
+use Rattle.frame.specs.Packets.{udpHeader, mostFragment, fullFragment, carried, packets}
 use Rattle.frame.specs.Tick.{inForce}
 use Rattle.network.specs.declared.Parent.the-variants.{Root}
 use Rattle.network.specs.Network.{Network, systemAt, vlAt, streamAt, portAt, hopAt}
@@ -88,7 +87,7 @@ abbrev flows : List Flow
 flows = record { period = 12500; jitter = 2365; cost = 1538 } ∷ record { period = 25000; jitter = 2365; cost = 536 } ∷ []
 
 queue-flows : (queueFlows whole 0 0 ≡ flow-0) × (queueFlows whole 1 0 ≡ flow-1)
-unfolding queueFlows queueFlow streamsOn passing packets up fullPacket protocolOverhead
+unfolding queueFlows queueFlow streamsOn passing packets numberOr0 leastFrom carried mostFragment fullFragment udpHeader
 queue-flows = (refl, refl)
 
 port-flows : portFlows whole (jitterOf whole) 0 ≡ flows
@@ -149,7 +148,7 @@ unfolding worst worstParts twoEach route routeOf muxWait sendMost mostTicks line
 worsts = (omega (arith, queues .0, port-figure .0), omega (arith, queues .1, port-figure .1))
 
 bests : (best whole 0 0 ≡ 2043) × (best whole 1 1 ≡ 2043)
-unfolding best bestParts twoEach route routeOf sendLine hopLine leastTicks lineTicks onLine leastLine leastFrame lineOverhead packets up fullPacket protocolOverhead total
+unfolding best bestParts twoEach route routeOf sendLine hopLine leastTicks lineTicks onLine leastLine leastFrame lineOverhead packets numberOr0 leastFrom carried mostFragment fullFragment udpHeader total
 bests = (refl, refl)
 
 -- "0 0 12500 19398 2043 17355" and "1 1 0 6898 2043 5855"

@@ -66,7 +66,7 @@ module _ (net : Network) where
   abbrev pub vlOf : Message → ℕ
   vlOf m = streamAt net (m .stream) .vl
 
-  -- "A message is cut by equations 4 and 7: every packet but the last is full."
+  -- "A message is cut by equations 4 and 7: every packet but the last is full"; M-103: "a full one has C"
   abbrev pub packetsIn : Message → List Packet
   packetsIn m = number m 0 (packetLines (m .size) (vlAt net (vlOf m) .lmax))
 

@@ -7,13 +7,12 @@ use mathlib.Core.Option.{none, some}
 use mathlib.Core.Path.{_≡_, refl, sym}
 use native.Mathlib.Omega.{arith}
 use Rattle.base.specs.Least.{leastFrom}
-use Rattle.base.specs.Round.{up}
 use Rattle.base.specs.Said.{accepted, refused, ruled}
 use Rattle.base.specs.Tabulate.{tabulate, passing, total}
 use Rattle.base.specs.Tests.{isSome, numberOr0}
 use Rattle.base.proofs.LeastLaws.{least-none}
-use Rattle.frame.specs.Frame.{lineOf, lineOverhead, protocolOverhead, leastFrame, greatestFrame, largestLine}
-use Rattle.frame.specs.Packets.{fullPacket, packets}
+use Rattle.frame.specs.Frame.{lineOf, lineOverhead, leastFrame, greatestFrame, largestLine}
+use Rattle.frame.specs.Packets.{udpHeader, mostFragment, fullFragment, carried, packets}
 use Rattle.frame.specs.Offered.{greatestMessage, packetsOf}
 use Rattle.frame.specs.Tick.{perByte, sendBase, sendLimit, inTime}
 use Rattle.network.specs.declared.Stream.{Stream}
@@ -68,7 +67,7 @@ abbrev flow : ℕ → ℕ → ℕ → Flow
 flow t j c = record { period = t; jitter = j; cost = c }
 
 pub numbers-hold : Numbers-hold
-unfolding numbers ruled up lineOf protocolOverhead leastFrame greatestFrame fullPacket packets greatestMessage packetsOf offered most brought limit mostFlows inRange allInRange lastOf lastIn improved climb descend queueFlows queueFlow streamsOn passing portFlows hopFlow hopsOn hopMost mostTicks lineTicks onLine largestLine lineOverhead perByte tabulate sendSays unless lateSystem leastFrom sendsLate inTime sendBase sendLimit sendSum sendMost vlsOf total
+unfolding numbers ruled lineOf leastFrame greatestFrame udpHeader mostFragment fullFragment carried packets numberOr0 greatestMessage packetsOf offered most brought limit mostFlows inRange allInRange lastOf lastIn improved climb descend queueFlows queueFlow streamsOn passing portFlows hopFlow hopsOn hopMost mostTicks lineTicks onLine largestLine lineOverhead perByte tabulate sendSays unless lateSystem leastFrom sendsLate inTime sendBase sendLimit sendSum sendMost vlsOf total
 numbers-hold = rw (
   -- 3
   queue-served (flow 50000 0 37500 ∷ []) refl (computed-served _ refl refl 9 37499 (record { figure = 37500; span = 0 }) refl refl) 1 (stream 3 50000 0 ∷ []) (omega arith) refl refl,

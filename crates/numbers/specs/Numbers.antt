@@ -1,7 +1,7 @@
 -- 01, Numbers to hold against: "Marked * are proved of the rules themselves, as one checked list under a single statement."
 -- Each is said of 01's own rule: 1 and 2 of the frame rule; of small networks 3 to 7 of the queue figure and answer 9, 8 of the port, 9 of
 -- answer 7. Assumes nothing.
-use Prim.Native.Nat.{ℕ, _*_}
+use Prim.Native.Nat.{ℕ, _-_}
 use mathlib.Core.Bool.{false}
 use mathlib.Core.List.{List, [], _∷_, map}
 use mathlib.Core.Option.{Option, none, some}
@@ -12,7 +12,7 @@ use Rattle.base.specs.Tabulate.{tabulate}
 use Rattle.base.specs.Tests.{numberOr0}
 use Rattle.frame.specs.declared.Speed.the-variants.{Mbit100}
 use Rattle.frame.specs.Frame.{lineOf}
-use Rattle.frame.specs.Packets.{fullPacket}
+use Rattle.frame.specs.Packets.{udpHeader, carried}
 use Rattle.frame.specs.Offered.{packetsOf}
 use Rattle.frame.specs.Tick.{perByte, inForce}
 use Rattle.network.specs.declared.Stream.{Stream}
@@ -44,9 +44,11 @@ small n lmaxes streams = record {
 abbrev pub queueNet : ℕ → List Stream → Network
 queueNet n streams = small n (1518 ∷ []) streams
 
--- a stream on its first sub-link, by p, T and J: a message is p full packets
+-- a stream on its first sub-link, by p, T and J: a message is the longest of p packets
 abbrev pub stream : ℕ → ℕ → ℕ → Stream
-stream p t j = record { vl = 0; sublink = 0; sampling = false; size = p * fullPacket 1518; least = p * fullPacket 1518; period = t; jitter = j }
+stream p t j =
+    let size = carried p 1518 - udpHeader in
+    record { vl = 0; sublink = 0; sampling = false; size = size; least = size; period = t; jitter = j }
 
 -- for 8: one hop, of cost 20 + 1,518
 abbrev pub portNet : Network
@@ -99,10 +101,10 @@ numbers =
     ∷ holds (ruled (lineOf 1471)) (accepted (1538 ∷ []))
     ∷ holds (ruled (lineOf 0)) (refused 4 (0 ∷ []))
     ∷ holds (ruled (lineOf 1472)) (refused 4 (0 ∷ []))
-    -- 2. M 1,471 at Lmax 1,518: 1 packet; 1,472: 2; M 100 at Lmax 64: 6
+    -- 2. M 1,471 at Lmax 1,518: 1 packet; 1,472: 2; M 100 at Lmax 64: 5, as M-103 corrects it
     ∷ holds (ruled (packetsOf 1471 1518)) (accepted (1 ∷ []))
     ∷ holds (ruled (packetsOf 1472 1518)) (accepted (2 ∷ []))
-    ∷ holds (ruled (packetsOf 100 64)) (accepted (6 ∷ []))
+    ∷ holds (ruled (packetsOf 100 64)) (accepted (5 ∷ []))
     -- 3. BAG 12,500, one stream p 3, T 50,000, J 0: L 37,500, queue 25,000
     ∷ holds (queueSays (queueNet 1 (stream 3 50000 0 ∷ [])) 0 0) (accepted (37500 ∷ 25000 ∷ []))
     -- 4. p 1, T 25,000, J 25,000: queue 12,500; J 24,999: 12,499

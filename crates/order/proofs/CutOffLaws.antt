@@ -8,7 +8,7 @@ use native.Mathlib.Omega.{arith}
 use lib.Dec.{eqb, eqb-refl}
 use lib.ListN.{length}
 use Rattle.frame.specs.Packets.{packets}
-use Rattle.frame.proofs.FrameLaws.{protocol-overhead-is, largest-line-bounds}
+use Rattle.frame.proofs.FrameLaws.{largest-line-bounds}
 use Rattle.network.specs.Network.{Network, vlAt, streamAt, hopAt}
 use Rattle.network.specs.Views.{streamsOn}
 use Rattle.rows.specs.Queues.{queueFlow, queueFlows}
@@ -67,7 +67,7 @@ module _ (net : Network) (sound : Sound net) (busy : Busy net) where
 
   pub nothing-cut-off : NothingCutOff net
   nothing-cut-off = record {
-    full-packet = λ v h. omega (arith, protocol-overhead-is, sound .lmax-least v h);
+    fragment = λ v h. omega (arith, sound .lmax-least v h);
     send-delay = sound .send;
     queue = machines net sound busy .nothing-cut-off;
     line = λ v h. largest-line-bounds (vlAt net v .lmax) (sound .lmax-least v h) (sound .lmax-greatest v h) .0;

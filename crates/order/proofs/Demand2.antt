@@ -1,6 +1,7 @@
 -- Demand 2, proved: the statement is in specs/Demand2.antt. What is left on acceptance is what the promise says; an accepted table's network is sound, so nothing is cut off; exactness, the one solution and the round trips are those of the analysis, of the rows and of the table.
 -- Assumes nothing.
 use mathlib.Core.Path.{sym, _∙_}
+use Rattle.frame.proofs.PacketLaws.{as-ip-cuts}
 use Rattle.table.proofs.RoundTrip.{unpack-after-write, write-after-unpack, determined}
 use Rattle.table.specs.Read.{networkIn}
 use Rattle.table.specs.Unpack.{left}
@@ -28,6 +29,7 @@ demand-2 = record {
       let was = accepted-was bytes room e in
       nothing-cut-off (networkIn bytes) (accepted-sound bytes room was) (accepted-busy bytes room was);
   gap-table = gap-table;
+  as-ip-cuts = as-ip-cuts;
   load-refusal-9 = exact-9;
   load-refusal-10 = exact-10;
   no-load-refusal = exact-accepted;

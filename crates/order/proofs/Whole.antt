@@ -9,14 +9,13 @@ use native.Mathlib.Omega.{arith}
 use borrow.Author.Tests.{le-ltb}
 use lib.ListN.{length}
 use Rattle.base.specs.Least.{leastFrom}
-use Rattle.base.specs.Round.{up}
 use Rattle.base.specs.Tabulate.{tabulate, passing, total}
 use Rattle.base.specs.Tests.{isSome, numberOr0, firstFailing}
 use Rattle.base.proofs.LeastLaws.{least-none}
 use Rattle.base.proofs.TestLaws.{no-row, some-is}
-use Rattle.frame.specs.Frame.{lineOverhead, protocolOverhead, largestLine}
+use Rattle.frame.specs.Frame.{lineOverhead, largestLine}
 use Rattle.frame.specs.Gap.{msOf}
-use Rattle.frame.specs.Packets.{fullPacket, packets}
+use Rattle.frame.specs.Packets.{udpHeader, mostFragment, fullFragment, carried, packets}
 use Rattle.frame.specs.Tick.{perMs, perByte, perUnit, sendBase, sendLimit, inTime}
 use Rattle.bits.specs.Bits.{digit, bitAt, fieldAt}
 use Rattle.bits.specs.Rows.{readAll}
@@ -82,7 +81,7 @@ unfolding answer5
 none-5 = rw (network-is, references-good, answer5)
 
 samples-good : badSample whole ≡ none
-unfolding badSample oneSample leastFrom packets up fullPacket protocolOverhead
+unfolding badSample oneSample leastFrom packets numberOr0 carried mostFragment fullFragment udpHeader
 samples-good = refl
 
 none-6 : answer6 (networkIn table) ≡ none

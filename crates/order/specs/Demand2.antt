@@ -8,7 +8,8 @@ use mathlib.Core.Path.{_≡_}
 use lib.ListN.{length, getD, take}
 use Rattle.base.specs.Tests.{numberOr0}
 use Rattle.bits.specs.Bits.{Bytes}
-use Rattle.frame.specs.Frame.{protocolOverhead, leastLine, largestLine}
+use Rattle.frame.specs.AsIpCuts.{As-ip-cuts}
+use Rattle.frame.specs.Frame.{leastLine, largestLine}
 use Rattle.frame.specs.Gap.{gapOf}
 use Rattle.frame.specs.Packets.{packets}
 use Rattle.frame.specs.Tick.{perMs}
@@ -51,8 +52,8 @@ pub record OneSolution (net : Network) : Type 0 where
 -- 01's rules subtract, and the definitions' difference of natural numbers is cut off at 0: here it never is, so that
 -- each is the difference that 01 means
 pub record NothingCutOff (net : Network) : Type 0 where
-  -- "p = M / (Lmax − 47) rounded up", and the divisor is not 0
-  pub full-packet : (v : ℕ) → v < length (net .vls) → protocolOverhead < vlAt net v .lmax
+  -- "S = Lmax − 39" (M-103)
+  pub fragment : (v : ℕ) → v < length (net .vls) → 39 ≤ vlAt net v .lmax
   -- "J raised by (greatest − least send delay)"
   pub send-delay : net .sendLeast ≤ net .sendGreatest
   -- "the station figure less one BAG"
@@ -112,6 +113,8 @@ pub record Demand-2 : Type 0 where
   pub one-solution : (bytes : List ℕ) (room : ℕ) → analysisAnswer bytes room ≡ accepted → OneSolution (networkIn bytes)
   pub nothing-cut-off : (bytes : List ℕ) (room : ℕ) → analysisAnswer bytes room ≡ accepted → NothingCutOff (networkIn bytes)
   pub gap-table : GapTable
+  -- M-103, "demands 2 and 3 read the new count from then on": what that count is, and how a message is cut by it
+  pub as-ip-cuts : As-ip-cuts
   -- "Where refusals 1 to 8 do not apply, a load refusal is given exactly if no busy length within 01's limit exists": 9 at the first VL
   -- with such a sub-link, else 10 at the first such port, else the table is accepted, and nothing else is answered
   pub load-refusal-9 : Exact-9

@@ -78,6 +78,13 @@ fn ranges() {
     reply(frame::packets_of(0, 64));
     reply(frame::packets_of(8192, 64));
     reply(frame::packets_of(8193, 64));
+    text(
+        b"packets: M 113, 114 at Lmax 64, where a full fragment has 24 bytes and the last up to 25; 2943, 2944 at 1518\n",
+    );
+    reply(frame::packets_of(113, 64));
+    reply(frame::packets_of(114, 64));
+    reply(frame::packets_of(2943, 1518));
+    reply(frame::packets_of(2944, 1518));
     text(b"20 + Lmax: 63, 64, 1518, 1519\n");
     reply(frame::largest_line(63));
     reply(frame::largest_line(64));

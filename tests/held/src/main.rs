@@ -1,5 +1,6 @@
-// The program: an independent reading of 01 and of the text of a table, with its generator of
-// tables and texts and its simulator. What it can be asked stands in USAGE.
+// The program: an independent reading of 01, as M-103 of 02 corrects it, and of the text of a
+// table, with its generator of tables and texts and its simulator. What it can be asked stands in
+// USAGE.
 mod make;
 mod paper;
 mod run;
@@ -7,13 +8,13 @@ mod run;
 use crate::make::{mixture, random, texts};
 use crate::paper::rows;
 use crate::paper::text::{print, read};
-use crate::run::{batch, check, items, simulate};
+use crate::run::{batch, check, counts, items, simulate};
 use std::io::{Read, Write};
 use std::process::ExitCode;
 
 const USAGE: &str = "usage: held rows | pack | unpack | items SEED COUNT | wrap FILE.. | answers | \
                      table SEED | tables SEED COUNT DIR | texts SEED COUNT DIR | \
-                     prints SEED COUNT DIR | simulate SEED COUNT | check";
+                     prints SEED COUNT DIR | packets | simulate SEED COUNT | check";
 
 fn main() -> ExitCode {
     let words: Vec<String> = std::env::args().skip(1).collect();
@@ -89,6 +90,10 @@ fn command(words: &[&str]) -> Result<bool, String> {
         ["tables", seed, count, dir] => tables(number(seed)?, number(count)?, dir),
         ["texts", seed, count, dir] => texts(number(seed)?, number(count)?, dir),
         ["prints", seed, count, dir] => prints(number(seed)?, number(count)?, dir),
+        ["packets"] => {
+            counts::write(std::io::stdout().lock()).map_err(|e| e.to_string())?;
+            Ok(true)
+        }
         ["simulate", seed, count] => {
             let summary = simulate::simulate(number(seed)?, number(count)?);
             for text in &summary.violations {

@@ -1,5 +1,6 @@
 // Each field at its limits and one past them, in rows that are not the first.
 // 01: "The packed table", its ranges and its paddings.
+use crate::make::messages;
 use crate::make::random::Rng;
 use crate::make::raw::Raw;
 
@@ -87,15 +88,28 @@ fn systems_and_vls(list: &mut Vec<Case>) {
         for sub_links in [1, 2, 3, 4] {
             list.push(case("BAG code and sub-links", 0, move |rng, raw| {
                 let vl = raw.attach(rng, code, sub_links, 100);
-                raw.add_stream([vl, sub_links - 1, 0, 159, 53, 125_000_000, 0]);
+                let (most, least) = (messages::longest(3, 100), messages::longest(1, 100));
+                raw.add_stream([vl, sub_links - 1, 0, most, least, 125_000_000, 0]);
                 raw.attach_whole(rng);
             }));
         }
     }
-    // "Lmax 64 to 1,518"
-    for (lmax, number) in
-        [(0, 4), (47, 4), (63, 4), (64, 0), (65, 0), (1_517, 0), (1_518, 0), (1_519, 4), (2_047, 4)]
-    {
+    // "Lmax 64 to 1,518"; below it also where S, C or the room of a packet by itself is nought, and
+    // where S would be less.
+    for (lmax, number) in [
+        (0, 4),
+        (38, 4),
+        (39, 4),
+        (46, 4),
+        (47, 4),
+        (63, 4),
+        (64, 0),
+        (65, 0),
+        (1_517, 0),
+        (1_518, 0),
+        (1_519, 4),
+        (2_047, 4),
+    ] {
         list.push(case("Lmax", number, move |rng, raw| {
             let vl = raw.attach(rng, 3, 1, lmax);
             raw.add_stream([vl, 0, 1, 17, 1, 1_000_000, 0]);

@@ -1,5 +1,6 @@
 // Networks of many shapes, most of them accepted: end systems, VLs with routes, streams.
 // The wish says how large and how tight; every limit of 01 is kept here.
+use crate::make::messages;
 use crate::make::random::Rng;
 use crate::make::raw::Raw;
 use crate::paper::frame::{self, GAPS};
@@ -204,11 +205,12 @@ fn streams(rng: &mut Rng, wish: &Wish, raw: &mut Raw) {
         let vl = rng.index(vls.len());
         let sub_link = rng.index(vls[vl][2] as usize + 1);
         let left = wish.queue_load - used[vl][sub_link].min(wish.queue_load);
-        let room = vls[vl][3] - frame::PROTOCOL_OVERHEAD;
+        let lmax = vls[vl][3];
+        let room = messages::longest(1, lmax);
         let kind = u64::from(rng.chance(40));
-        let mut most = if kind == 1 { rng.between(1, room) } else { long_message(rng, room) };
+        let mut most = if kind == 1 { rng.between(1, room) } else { long_message(rng, lmax) };
         let unit = (vls[vl][2] + 1) * GAPS[vls[vl][1] as usize];
-        let mut cost = most.div_ceil(room) * unit;
+        let mut cost = frame::packets(most, lmax) * unit;
         if left == 0 || cost * 1_000_000 / left >= 125_000_000 {
             most = most.min(room);
             cost = unit;
@@ -232,13 +234,14 @@ fn streams(rng: &mut Rng, wish: &Wish, raw: &mut Raw) {
 }
 
 /// The size of a queuing message, often at the edge of a packet.
-fn long_message(rng: &mut Rng, room: u64) -> u64 {
+fn long_message(rng: &mut Rng, lmax: u64) -> u64 {
     let packets = rng.between(1, 9);
+    let longest = messages::longest(packets, lmax);
     let size = match rng.below(4) {
-        0 => packets * room,
-        1 => packets * room + 1,
-        2 => rng.between(1, room),
-        _ => rng.between(1, packets * room),
+        0 => longest,
+        1 => longest + 1,
+        2 => rng.between(1, messages::longest(1, lmax)),
+        _ => rng.between(1, longest),
     };
     size.min(8_192)
 }

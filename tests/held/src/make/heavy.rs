@@ -1,5 +1,6 @@
 // Tables that make searches long: queues and ports with a load just below, at and above one, and
 // many flows whose jitters differ, so that the spans to be tried are many.
+use crate::make::messages;
 use crate::make::random::Rng;
 use crate::make::raw::Raw;
 use crate::paper::frame::GAPS;
@@ -119,7 +120,7 @@ fn many_streams(rng: &mut Rng, count: u64) -> Raw {
             let even = packets * cost * count * 1_000 / load;
             let period = rng.between(even - even / 50, even + even / 50).min(125_000_000);
             let jitter = rng.below(period);
-            raw.add_stream([vl, 0, 0, 253 * packets, 1, period, jitter]);
+            raw.add_stream([vl, 0, 0, messages::longest(packets, 300), 1, period, jitter]);
         }
     }
     raw
@@ -158,7 +159,9 @@ fn long_bursts(rng: &mut Rng) -> Raw {
         let jitter = rng.between(1_000_000, 125_000_000);
         let half = rng.between(26_000, 40_000);
         raw.add_stream([vl, 0, 0, 900, 900, half, jitter]);
-        raw.add_stream([vl, 0, 0, 1_906, 954, 4 * half, rng.below(1_000_000)]);
+        // Two full packets at the most, one byte more than one packet at the least.
+        let (most, least) = (messages::longest(2, 1_000), messages::longest(1, 1_000) + 1);
+        raw.add_stream([vl, 0, 0, most, least, 4 * half, rng.below(1_000_000)]);
     }
     raw
 }

@@ -4,6 +4,7 @@ pub mod damage;
 pub mod edges;
 pub mod generate;
 pub mod heavy;
+pub mod messages;
 pub mod mixture;
 pub mod overloads;
 pub mod random;

@@ -1,6 +1,7 @@
 // Answers 7 to 10 in rows that are not the first, and beside them the nearest good neighbours.
 // 01: "Answers by number" from 7 on, and "One station, used for queues and ports".
 use crate::make::edges::{Case, case};
+use crate::make::messages;
 use crate::make::random::Rng;
 use crate::make::raw::Raw;
 use crate::paper::frame::GAPS;
@@ -11,6 +12,7 @@ pub fn cases() -> Vec<Case> {
     many_rows(&mut list);
     queues(&mut list);
     exact_queues(&mut list);
+    exact_messages(&mut list);
     ports(&mut list);
     list
 }
@@ -103,10 +105,11 @@ fn queues(list: &mut Vec<Case>) {
             list.push(case("queue load", number, move |rng, raw| {
                 raw.delays((100, 100), (0, 7));
                 let vl = raw.attach(rng, 3, sub_links, 600);
+                let most = messages::longest(2, 600);
                 let cost = 2 * sub_links * 100_000;
-                raw.add_stream([vl, 0, 0, 1_106, 1, cost, 0]);
+                raw.add_stream([vl, 0, 0, most, 1, cost, 0]);
                 if sub_links > 1 {
-                    raw.add_stream([vl, sub_links - 1, 0, 1_106, 1, cost - period, 0]);
+                    raw.add_stream([vl, sub_links - 1, 0, most, 1, cost - period, 0]);
                 } else {
                     raw.sections[3].last_mut().unwrap()[5] -= period;
                 }
@@ -127,12 +130,14 @@ fn queues(list: &mut Vec<Case>) {
         }));
     }
     // Two streams of 625 packets in all, gap 16 ms, period 125,000,000: the length is the limit.
-    for (packets, number) in [(212, 0), (213, 9), (211, 0)] {
+    // A byte more in one of them is a packet more.
+    for (packets, over, number) in [(284, 0, 0), (284, 1, 9), (283, 1, 0)] {
         list.push(case("one burst at the limit", number, move |rng, raw| {
             raw.delays((40, 40), (1, 2));
             let vl = raw.attach(rng, 4, 1, 64);
-            raw.add_stream([vl, 0, 0, 413 * 17, 1, 125_000_000, 0]);
-            raw.add_stream([vl, 0, 0, packets * 17, 1, 125_000_000, 0]);
+            let [first, second] = [341, packets].map(|packets| messages::longest(packets, 64));
+            raw.add_stream([vl, 0, 0, first, 1, 125_000_000, 0]);
+            raw.add_stream([vl, 0, 0, second + over, 1, 125_000_000, 0]);
             raw.attach_whole(rng);
         }));
     }
@@ -173,13 +178,31 @@ fn exact_queues(list: &mut Vec<Case>) {
                     for (k, &(packets, turns)) in set.iter().enumerate() {
                         let last = k + 1 == set.len();
                         let (j, t) = if last { (jitter, less) } else { (0, 0) };
-                        let most = 53 * packets - rng.below(53);
+                        let most = messages::any(rng, packets, 100);
                         let sub = sub_links - 1;
                         raw.add_stream([vl, sub, 0, most, 1, turns * unit - t, j]);
                     }
                     raw.attach_whole(rng);
                 }));
             }
+        }
+    }
+}
+
+fn exact_messages(list: &mut Vec<Case>) {
+    // 02, M-103: "M + 8 at most (p − 1) × C + S". As many bytes as p packets hold, and one more, in
+    // a queue with time for just p; S is above a multiple of 8 by each rest.
+    for rest in 0..8 {
+        for (over, number) in [(0, 0), (1, 9)] {
+            list.push(case("message of as many packets as can be", number, move |rng, raw| {
+                raw.delays((60, 60), (0, 7));
+                let lmax = 39 + 8 * rng.between(4, 184) + rest;
+                let packets = rng.between(2, 5);
+                let vl = raw.attach(rng, 0, 1, lmax);
+                let most = messages::longest(packets, lmax) + over;
+                raw.add_stream([vl, 0, 0, most, 1, packets * GAPS[0], 0]);
+                raw.attach_whole(rng);
+            }));
         }
     }
 }

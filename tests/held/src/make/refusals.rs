@@ -220,8 +220,9 @@ fn depths(list: &mut Vec<Case>) {
 }
 
 fn samples(list: &mut Vec<Case>) {
-    // 6: "a sampling message needs more than one packet"
-    for lmax in [64, 65, 516, 1_518] {
+    // 6: "a sampling message needs more than one packet". 02, M-103: "so does the sampling limit",
+    // it stays at Lmax − 47; at Lmax 71 a full fragment has all of S.
+    for lmax in [64, 65, 71, 516, 1_518] {
         for over in [0u64, 1, 900] {
             let number = if over == 0 { 0 } else { 6 };
             list.push(case("sample", number, move |rng, raw| {

@@ -1,5 +1,5 @@
-// The tick, the frame rule, the count of packets and the gaps of virtual links.
-// 01: "Units", "Frames" and the sentence on BAG codes.
+// The tick, the frame rule, the fragments of a message and the gaps of virtual links.
+// 01: "Units", "Frames" and the sentence on BAG codes; for messages 02, M-103, which corrects 01.
 
 /// 01: "A tick is 80 ns: 1 ms is 12,500 ticks, 40 µs is 500, 500 µs is 6,250."
 pub const TICKS_PER_MS: u64 = 12_500;
@@ -26,7 +26,7 @@ pub fn ticks_per_byte(speed: u64) -> u64 {
 }
 
 /// 01: "A packet payload of 1 to 17 bytes occupies 84 bytes on the line, 18 to 1,471
-/// occupies 67 plus the payload, any other is refused (4)."
+/// occupies 67 plus the payload, any other is refused (4)." This is a packet by itself.
 pub fn line_size(payload: u64) -> Option<u64> {
     match payload {
         1..=17 => Some(84),
@@ -35,20 +35,44 @@ pub fn line_size(payload: u64) -> Option<u64> {
     }
 }
 
-/// 01: "A message of M bytes on a VL of largest frame Lmax becomes p packets,
-/// p = M / (Lmax − 47) rounded up (equation 4)."
-pub fn packets(message: u64, lmax: u64) -> u64 {
-    let room = lmax - PROTOCOL_OVERHEAD;
-    message.div_ceil(room)
+/// 02, M-103: "only the first fragment has the 8-byte UDP header".
+pub const UDP_HEADER: u64 = 8;
+
+/// 02, M-103: "S = Lmax − 39". No fragment has more bytes than S.
+pub fn most_of_fragment(lmax: u64) -> u64 {
+    lmax - 39
 }
 
-/// The payloads of a message: "every packet but the last is full" (equations 4 and 7).
-pub fn payloads(message: u64, lmax: u64) -> Vec<u64> {
-    let room = lmax - PROTOCOL_OVERHEAD;
-    let count = packets(message, lmax);
-    let mut list = vec![room; count as usize - 1];
-    list.push(message - (count - 1) * room);
+/// 02, M-103: "C = S rounded down to a multiple of 8", as "every fragment but the last carries a
+/// multiple of 8 bytes".
+pub fn full_fragment(lmax: u64) -> u64 {
+    let s = most_of_fragment(lmax);
+    s - s % 8
+}
+
+/// 02, M-103: "p is the least count with M + 8 at most (p − 1) × C + S." It is counted, so that
+/// nothing but the sentence stands here.
+pub fn packets(message: u64, lmax: u64) -> u64 {
+    let (s, c) = (most_of_fragment(lmax), full_fragment(lmax));
+    let mut p = 1;
+    while message + UDP_HEADER > (p - 1) * c + s {
+        p += 1;
+    }
+    p
+}
+
+/// The bytes of each fragment of a message, the UDP header counted. 01: "every packet but the last
+/// is full"; 02, M-103: "a full one has C".
+pub fn fragments(message: u64, lmax: u64) -> Vec<u64> {
+    let full_ones = packets(message, lmax) - 1;
+    let mut list = vec![full_fragment(lmax); full_ones as usize];
+    list.push(message + UDP_HEADER - full_ones * full_fragment(lmax));
     list
+}
+
+/// 02, M-103: "A fragment of f bytes, UDP header counted, takes 59 + f on the line, at least 84".
+pub fn fragment_line(f: u64) -> u64 {
+    (59 + f).max(84)
 }
 
 /// The line bytes at which a VL is charged: 20 + Lmax.

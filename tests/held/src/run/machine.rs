@@ -208,14 +208,15 @@ impl Machine<'_> {
         self.push(tick + delay, order, Event::FrameArrives(hop, frame));
     }
 
-    /// "A message is cut by equations 4 and 7 ... Each message reaches its sub-link queue whole".
+    /// "A message is cut ...: every packet but the last is full", now as M-103 of 02 counts them.
+    /// "Each message reaches its sub-link queue whole".
     fn message_arrives(&mut self, tick: u64, m: usize) {
         let stream = &self.net.streams[self.messages[m].stream];
-        let payloads = frame::payloads(self.messages[m].size, self.net.vls[stream.vl].lmax);
+        let fragments = frame::fragments(self.messages[m].size, self.net.vls[stream.vl].lmax);
         let queue = &mut self.vls[stream.vl].sub_links[stream.sub_link as usize];
-        for (k, &payload) in payloads.iter().enumerate() {
-            let line = frame::line_size(payload).expect("a payload of 1 to 1,471 bytes");
-            queue.push_back(Frame { message: m, line, last: k + 1 == payloads.len() });
+        for (k, &bytes) in fragments.iter().enumerate() {
+            let (line, last) = (frame::fragment_line(bytes), k + 1 == fragments.len());
+            queue.push_back(Frame { message: m, line, last });
         }
         let ready = self.ready(stream.vl);
         self.push(tick.max(ready), 0, Event::HandOver(stream.vl));

@@ -1,7 +1,8 @@
-// What is done with it: the tick machine and its runs, the item stream, and the program's own check.
-// Stands on paper and make.
+// What is done with it: the tick machine and its runs, the item stream, the counts of packets, and
+// the program's own check. Stands on paper and make.
 pub mod batch;
 pub mod check;
+pub mod counts;
 pub mod directed;
 pub mod items;
 pub mod machine;

@@ -82,11 +82,13 @@ pub fn run(net: &Network, messages: &[Message], choices: &mut dyn Choices, end: 
         for m in now {
             let stream = &net.streams[messages[m].stream];
             let lmax = net.vls[stream.vl].lmax;
-            let mut left = messages[m].size;
+            // Without a count: what fits is the last fragment, of all else a full one is cut off.
+            let mut left = messages[m].size + frame::UDP_HEADER;
             while left > 0 {
-                let payload = left.min(lmax - frame::PROTOCOL_OVERHEAD);
-                left -= payload;
-                let line = frame::line_size(payload).unwrap();
+                let fits = left <= frame::most_of_fragment(lmax);
+                let bytes = if fits { left } else { frame::full_fragment(lmax) };
+                left -= bytes;
+                let line = frame::fragment_line(bytes);
                 let packet = Packet { message: m, line, last: left == 0 };
                 queues[stream.vl][stream.sub_link as usize].push_back(packet);
             }

@@ -1,4 +1,4 @@
--- `analysis::results::gaps_of` meets its contract: a message has at least one packet and at most 482.
+-- `analysis::results::gaps_of` meets its contract: a message has at least one packet and not many.
 -- Assumes nothing.
 use Prim.Native.Nat.{_-_, _*_, _≤_}
 use mathlib.Core.Path.{_≡_, ap}
@@ -8,6 +8,7 @@ use Rattle.network.specs.declared.Vl.{Vl}
 use Rattle.network.specs.declared.Stream.{Stream}
 use Rattle.network.specs.Ranges.{VlRange}
 use Rattle.frame.specs.Packets.{packets}
+use Rattle.frame.proofs.PacketLaws.{mostPackets}
 use Rattle.figures.proofs.GivenLaws.{packets-are}
 use Rattle.figures.proofs.RangeLaws.{vl-range, stream-range, stream-vl}
 use Rattle.analysis.proofs.RowLaws.{gaps-read}
@@ -22,7 +23,7 @@ vl-known c =
 
 few : (c : tie.After-packets) →
     let n = c .packets .result in
-    (n ≡ packets (c .before .before .stream-at .result .least) (c .before .vl-at .result .lmax)) × (1 ≤ n) × (n ≤ 482)
+    (n ≡ packets (c .before .before .stream-at .result .least) (c .before .vl-at .result .lmax)) × (1 ≤ n) × (n ≤ mostPackets)
 few c =
     let p = c .before .before .before .pre in
     let stream = stream-range (p .0) (c .before .before .stream-at .ensures) (p .1) in
@@ -30,8 +31,8 @@ few c =
     packets-are _ _ (c .packets .result) (stream .least-size-least) (omega (arith, stream)) (vl .lmax-least) (vl .lmax-greatest)
     (c .packets .ensures)
 
-most : (c : tie.After-packets) → (c .packets .result - 1) * c .before .vl-at .result .gap ≤ 769600000
-most c = mul-le-mul {n₁ = c .packets .result - 1} {n₂ = 481} (omega (arith, few c .2)) (vl-known (c .before) .gap-greatest)
+most : (c : tie.After-packets) → (c .packets .result - 1) * c .before .vl-at .result .gap ≤ 545600000
+most c = mul-le-mul {n₁ = c .packets .result - 1} {n₂ = mostPackets - 1} (omega (arith, few c .2)) (vl-known (c .before) .gap-greatest)
 
 returns : tie.Need-returns
 returns c =

@@ -5,18 +5,19 @@ use mathlib.Core.Path.{_≡_, ap}
 use native.Mathlib.Nat.{mul-le-mul}
 use native.Mathlib.Omega.{arith}
 use Rattle.frame.specs.Packets.{packets}
+use Rattle.frame.proofs.PacketLaws.{mostPackets}
 use Rattle.figures.proofs.GivenLaws.{packets-are}
 use borrow.Author.Needs.{needs}
 use Rattle.figures.proofs.queues.queue_flow.Statement.{statement}
 use Rattle.figures.proofs.queues.queue_flow.Tie as tie
 
--- at most 482 packets on at most 4 sub-links: the products fit whether or not the other sub-links are counted
-few : (c : tie.After-packets) → (c .packets .result ≡ packets (c .before .before .before .args .stream .size) (c .before .before .before .args .vl .lmax)) × (1 ≤ c .packets .result) × (c .packets .result ≤ 482)
+-- few packets on at most 4 sub-links: the products fit whether or not the other sub-links are counted
+few : (c : tie.After-packets) → (c .packets .result ≡ packets (c .before .before .before .args .stream .size) (c .before .before .before .args .vl .lmax)) × (1 ≤ c .packets .result) × (c .packets .result ≤ mostPackets)
 few c =
     let p = c .before .before .before .pre in
     packets-are (c .before .before .before .args .stream .size) (c .before .before .before .args .vl .lmax) (c .packets .result) (omega (arith, p .stream-range)) (p .stream-range .size-greatest) (p .vl-range .lmax-least) (p .vl-range .lmax-greatest) (c .packets .ensures)
 
-links : (c : tie.After-packets) → c .packets .result * c .before .before .before .args .vl .sublinks ≤ 1928
+links : (c : tie.After-packets) → c .packets .result * c .before .before .before .args .vl .sublinks ≤ mostPackets * 4
 links c = mul-le-mul (few c .2) (c .before .before .before .pre .vl-range .sub-links-greatest)
 
 mul-t8 : tie.Need-mul-t8

@@ -59,14 +59,41 @@ pub fn least_run_takes_its_best_figure(report: &mut Report) {
     }
 }
 
-/// The whole case's stream 0 with 2,000 bytes: two packets, of 1,538 and of 67 + 529 bytes, the
-/// second handed over one BAG after the first.
+/// The whole case's stream 0 with 2,000 bytes: two packets, of 59 + 1,472 and of 59 + 536 bytes,
+/// the second handed over one BAG after the first.
 pub fn second_packet_waits_one_gap(report: &mut Report) {
     let net = network(&whole_case::lists());
     for outcome in both(&net, &[message(0, 2_000)]) {
         report.same("wait", outcome.waits, vec![12_500]);
-        let end = 5_500 + 12_500 + 596 + 875 + 596 + 500;
+        let end = 5_500 + 12_500 + 595 + 875 + 595 + 500;
         report.same("complete", outcome.completions, vec![(0, 0, end)]);
+    }
+}
+
+/// 02, M-103, at Lmax 1,518: one packet by itself at its most, two with a last one of 8 bytes, of
+/// 1,478 and of 1,479, which is more than a full one has, and three with a last one of 8 bytes.
+pub fn last_fragment_takes_its_own_line(report: &mut Report) {
+    let mut lists = whole_case::lists();
+    lists[3][3] = 2_944;
+    let net = network(&lists);
+    for (size, gaps, line) in
+        [(1_471, 0, 1_538), (1_472, 1, 84), (2_942, 1, 1_537), (2_943, 1, 1_538), (2_944, 2, 84)]
+    {
+        for outcome in both(&net, &[message(0, size)]) {
+            let wait = 12_500 * gaps;
+            report.same("wait", outcome.waits, vec![wait]);
+            let end = 5_500 + wait + line + 875 + line + 500;
+            report.same("complete", outcome.completions, vec![(0, 0, end)]);
+        }
+    }
+}
+
+/// A full fragment of 1,472 bytes before a packet of 84, in the end system's turn and at the port.
+pub fn full_fragment_takes_59_and_c(report: &mut Report) {
+    let net = network(&whole_case::lists());
+    for outcome in both(&net, &[message(0, 2_000), message(1, 10)]) {
+        let end = 5_500 + 1_531 + 875 + 1_531 + 84 + 500;
+        report.same("the packet behind it", outcome.completions[1], (1, 1, end));
     }
 }
 

@@ -3,6 +3,7 @@
 mod cases;
 #[cfg(test)]
 mod examples;
+mod fragments;
 mod machines;
 mod numbers;
 mod sentences;
@@ -67,6 +68,14 @@ parts! {
         case_5_load_of_one, case_6_one_tick_of_jitter, case_7_one_turn_in_two, case_8_port,
         case_9_end_system, case_10_bytes, whole_case_bytes, whole_case_rows,
         best_counts_every_least_packet, whole_case_lent_result;
+    fragments: counts_worked_by_hand, count_is_the_least_that_holds_the_message,
+        one_packet_exactly_up_to_lmax_less_47, count_never_falls_as_messages_grow,
+        never_more_packets_than_by_the_former_rule, fragments_add_to_message_and_one_header,
+        first_fragment_alone_has_the_udp_header, fragments_before_the_last_are_multiples_of_8,
+        full_fragment_is_the_longest_multiple_of_8, last_fragment_has_at_most_s,
+        fragments_are_what_is_cut_off_until_it_fits, lines_are_84_to_20_and_lmax,
+        packet_alone_takes_the_line_of_its_fragment, lines_of_fragments_by_hand,
+        longest_message_is_a_byte_short_of_a_packet_more, written_counts_stand_in_their_places;
     stations: busy_length_is_the_least_of_every_length, figure_is_the_greatest_of_every_span,
         span_is_the_first_with_the_figure, stations_of_real_size, busy_length_ends_at_its_limit,
         station_by_itself_refuses;
@@ -96,8 +105,9 @@ parts! {
         edges_give_what_they_are_made_for, gate_texts_have_every_sentence, spoilt_texts_end,
         bent_number_is_named_by_its_line;
     machines: least_run_takes_its_best_figure, second_packet_waits_one_gap,
-        sub_links_take_turns, same_tick_order_is_kept, events_and_ticks_agree,
-        unlawful_plans_are_seen, runs_keep_to_their_rows, wrong_rows_are_seen;
+        last_fragment_takes_its_own_line, full_fragment_takes_59_and_c, sub_links_take_turns,
+        same_tick_order_is_kept, events_and_ticks_agree, unlawful_plans_are_seen,
+        runs_keep_to_their_rows, wrong_rows_are_seen;
 }
 
 /// Runs one part and gives its report.

@@ -1,4 +1,4 @@
-// 01's "Numbers to hold against", 1 to 10, and its whole case, number for number.
+// 01's "Numbers to hold against", 1 to 10, as M-103 of 02 corrects them, and its whole case.
 // Each comparison stands under the words it comes from.
 use super::Report;
 use crate::make::whole_case;
@@ -35,15 +35,12 @@ pub fn case_1_line_sizes(report: &mut Report) {
     report.same("a full frame's line", frame::line_size(1_518 - 47), Some(frame::full_line(1_518)));
 }
 
-/// "M 1,471 at Lmax 1,518: 1 packet; 1,472: 2; M 100 at Lmax 64: 6"
+/// "M 1,471 at Lmax 1,518: 1 packet; 1,472: 2"; 02, M-103: "Case 2's third line", M 100 at Lmax 64,
+/// "becomes 5 packets; its first two stay".
 pub fn case_2_packets(report: &mut Report) {
-    for (m, lmax, packets) in [(1_471, 1_518, 1), (1_472, 1_518, 2), (100, 64, 6)] {
+    for (m, lmax, packets) in [(1_471, 1_518, 1), (1_472, 1_518, 2), (100, 64, 5)] {
         report.same("packets", frame::packets(m, lmax), packets);
-        // "every packet but the last is full"
-        let payloads = frame::payloads(m, lmax);
-        report.same("payloads", payloads.len() as u64, packets);
-        report.same("bytes", payloads.iter().sum(), m);
-        report.holds("full", payloads[1..].iter().all(|&last| last <= payloads[0]));
+        report.same("fragments", frame::fragments(m, lmax).len() as u64, packets);
     }
 }
 
@@ -59,9 +56,10 @@ pub fn case_4_both_end_ticks(report: &mut Report) {
     report.same("J 24,999", four(24_999), Some(12_499));
 }
 
-/// The stream of one packet, with this jitter, and the stream of two, as flows and as a table.
+/// The stream of one packet, with this jitter, and the stream of two, as flows and as a table. Both
+/// have as many bytes as their packets hold.
 fn five(jitter: u64) -> ([Flow; 2], Lists) {
-    let streams = [0, 0, 0, 17, 17, 25_000, jitter, 0, 0, 0, 34, 17, 50_000, 0];
+    let streams = [0, 0, 0, 17, 17, 25_000, jitter, 0, 0, 0, 41, 17, 50_000, 0];
     let six: [&[u64]; 6] =
         [&[1, 9, 9, 0, 0], &[100], &[0, 1, 1, 64], &streams, &[100, 0, 0], &[0, 0, 0]];
     ([flow(25_000, jitter, BAG), flow(50_000, 0, 2 * BAG)], whole_case::set_down(six))
