@@ -133,7 +133,7 @@ static void queue_one(Net *n)
         new_stream(n, 0, 0, 17, 25000u << k, 0);
     for (uint32_t k = 0; k < 507; k++)
         new_stream(n, 0, 0, 17, 125000000, 0);
-    new_stream(n, 0, 0, 17 * 118, 125000000, 0);
+    new_stream(n, 0, 0, 117 * 24 + 17, 125000000, 0); /* the longest message of 118 packets */
 }
 
 /* 256 queues of one stream, the station creep-queue of stations.h. */

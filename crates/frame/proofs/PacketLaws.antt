@@ -34,6 +34,11 @@ pub most-fragment-is : (lmax : ℕ) → mostFragment lmax ≡ lmax - 39
 unfolding mostFragment
 most-fragment-is lmax = refl
 
+-- 39 and 59 follow from 01's numbers: a fragment has no UDP header of its own
+pub fragment-numbers-follow : (39 ≡ protocolOverhead - udpHeader) × (59 ≡ lineOverhead + protocolOverhead - udpHeader)
+unfolding lineOverhead protocolOverhead udpHeader
+fragment-numbers-follow = (refl, refl)
+
 -- C is a multiple of 8, and S has less than 8 beyond it
 pub full-fragment-is : (lmax : ℕ) → fullFragment lmax ≡ mostFragment lmax / 8 * 8
 unfolding fullFragment
