@@ -2,8 +2,9 @@
 # a record again and says what is the same. docs/RECORD.md has the format.
 
 FORMAT=1
+# The rules that rows are computed by: the tick, and the requests that replaced sentences of the paper, as docs/CORRECTIONS.md has them.
 TICK=80
-REQUESTS=none
+REQUESTS=M-103
 MOST_RECORD=3000000
 
 # ---- bytes in hexadecimal, 32 a line, and back
@@ -20,9 +21,12 @@ bytes_of() { # FILE of hexadecimal lines
 }
 
 # ---- a record
+rules() { printf 'tick-ns %s\nrequests %s\n' "$TICK" "$REQUESTS"; }
+
 record_of() { # NAME TABLE ANSWER: the record's lines but the last; the stamp is the program's
     sha_of "$2"
-    printf 'avulgjesh-record %s\ntick-ns %s\nrequests %s\n' "$FORMAT" "$TICK" "$REQUESTS"
+    echo "avulgjesh-record $FORMAT"
+    rules
     printf 'table-name %s\ntable-length %s\ntable-sha256 %s\ntable-bytes\n' "$1" "$(($(wc -c <"$2")))" "$sha"
     hex_of "$2" || return
     [ ! -s "$2" ] || echo

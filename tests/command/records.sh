@@ -23,7 +23,7 @@ test_record_holds_table_rows_and_stamp() {
     cat >wanted <<END
 avulgjesh-record 1
 tick-ns 80
-requests none
+requests M-103
 table-name whole-case.tbl
 table-length 59
 table-sha256 17cd97046797ebf38e56268142dee36ac6f7790fc4ff85eccca3ccbb4fc6d306
@@ -133,7 +133,7 @@ test_changed_byte_elsewhere_is_damage() {
     a_record
     changed 2 damaged 's/^table-name w/table-name v/'
     changed 2 damaged 's/^tick-ns 80/tick-ns 81/'
-    changed 2 damaged 's/^requests none/requests some/'
+    changed 2 damaged 's/^requests M-103/requests M-104/'
     changed 2 damaged 's/^program-sha256 ./program-sha256 /'
     changed 2 damaged 's/^sources-sha256 ./sources-sha256 /'
     changed 2 damaged 's/^commit ./commit /'
@@ -203,13 +203,25 @@ test_other_rules_are_said_first_and_are_no_fault() {
     sed -e 's/^tick-ns .*/tick-ns 8/' -e 's/^requests .*/requests M-102/' -e 's/ 19398 / 193980 /' good >bad
     resealed bad
     gives 1 verify bad
-    sed -n 1p out | grep -q '^bad: made under other rules: tick-ns 8, here 80, requests M-102, here none$' ||
+    sed -n 1p out | grep -q '^bad: made under other rules: tick-ns 8, here 80, requests M-102, here M-103$' ||
         no "it says '$(head -n 1 out)'"
     sed -n 2p out | grep -q '^bad: the rows differ, .*the table is as it was recorded$' || no "then '$(sed -n 2p out)'"
     sed '1s/1/2/' good >bad
     resealed bad
     gives 2 verify bad
     grep -q '^bad: made under other rules: a record of format 2' out || no "it says '$(head -n 1 out)'"
+}
+
+# A record from before a request that moved rows must not pass for one of today's rules.
+test_requests_of_a_record_are_those_that_corrected_the_paper() {
+    a_record
+    corrected=$(sed -n 's/^## \(M-[0-9]*\): .*/\1/p' "$root/docs/CORRECTIONS.md" | tr '\n' ' ')
+    [ -n "$corrected" ] || no 'docs/CORRECTIONS.md has no request'
+    grep -qx "requests ${corrected% }" good || no "it says '$(sed -n 3p good)'"
+    sed 's/^requests .*/requests none/' good >bad
+    resealed bad
+    gives 0 verify bad
+    sed -n 1p out | grep -qx 'bad: made under other rules: requests none, here M-103' || no "it says '$(head -n 1 out)'"
 }
 
 test_of_several_records_the_highest_status() {

@@ -77,8 +77,11 @@ test_wrong_words_are_usage() {
     sentence '^usage: '
 }
 
-test_version_names_the_stamp() {
+test_version_names_the_rules_and_the_stamp() {
     gives 0 version
+    sed -n 2,3p out >rules
+    printf 'tick-ns 80\nrequests M-103\n' >wanted
+    same rules wanted
     tail -n 4 out >stamp
     same stamp "$root/target/bin/latency.stamp"
     gives 0 --version
