@@ -1,5 +1,7 @@
 // The analysis of a packed table: its result rows, or 01's refusal 1 to 10.
 // The table comes in from anywhere: it answers for all bytes, and leaves zeros where it refuses.
+#![tactic(auto)]
+
 mod analysing;
 mod results;
 
@@ -7,7 +9,7 @@ pub use analysing::analyse;
 use table::Answer;
 
 // 01's answer, and how many rows were written: none on a refusal.
-#[derive(Drop)]
+#[derive(Clone, Copy)]
 pub struct Analysed {
     pub answer: Answer,
     pub rows: usize,

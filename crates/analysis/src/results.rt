@@ -15,7 +15,7 @@ use sheet::Delays;
 // ---- a row
 
 // The ticks that a frame or a route takes, at most and at least.
-#[derive(Drop)]
+#[derive(Clone, Copy)]
 pub struct Ticks {
     pub most: u64,
     pub least: u64,

@@ -1,17 +1,19 @@
 // A bit cursor by value: fields of up to 32 bits are read from bytes and written to bytes, most significant bit first.
 // Every routine answers for all input: where the list has no such field, 0 is read, nothing is written, and the place stays.
+#![tactic(auto)]
+
 ghost use Rattle.std.specs.Prelude.{◌≡◌, ◌+◌, ◌-◌, ◌*◌, ◌/◌, ◌%◌, ◌^◌, ◌≤◌, ◌<◌, length};
 ghost use Rattle.bits.specs.Bits.{with_digit, put_bit, field_at, put_at};
 ghost use Rattle.bits.specs.Place.{Room, room, next_place, field_of, put_of};
 
 // A place in a list of bytes, counted in bits.
-#[derive(Drop)]
+#[derive(Clone, Copy)]
 pub struct Cursor {
     pub at: usize,
 }
 
 // A field, and the place where the next begins.
-#[derive(Drop)]
+#[derive(Clone, Copy)]
 pub struct Field {
     pub value: u64,
     pub next: Cursor,

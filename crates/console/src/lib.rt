@@ -1,12 +1,14 @@
 // How a program reads, writes and gives up: a read that fails is told from the end of the input, and every write says whether it went out whole.
 // Every public routine answers for all input. What is read and written no contract can say: C's read and write are assumed, and only their answers.
+#![tactic(auto)]
+
 ghost use Rattle.std.specs.Prelude.{false, ◌≡◌, ◌<◌, length};
 ghost use Rattle.console.specs.Told.{told, Within, Counted};
 
 use libc::{STDERR_FILENO, STDIN_FILENO, STDOUT_FILENO};
 
 // What one call of C's read came to.
-#[derive(Drop)]
+#[derive(Clone, Copy)]
 pub enum Turn {
     Some(usize),
     End,
@@ -14,7 +16,7 @@ pub enum Turn {
 }
 
 // What was read: so many bytes at the start of the lent buffer, up to the input's end or as many as it holds; or some read failed.
-#[derive(Drop)]
+#[derive(Clone, Copy)]
 pub enum Input {
     Bytes(usize),
     Failed,

@@ -1,5 +1,7 @@
 // What a supplier of end systems links: the frame rule and the station, as functions that C calls. There is no table in it.
 // Numbers and a flat slice come in; a struct of number, section, row and values goes out. As in `frame` and `station`, every routine answers for all input.
+#![tactic(auto)]
+
 ghost use Rattle.std.specs.Prelude.{◌≡◌};
 ghost use Rattle.base.specs.Said.{ruled};
 ghost use Rattle.frame.specs.Reply.{said as replySaid};
@@ -19,7 +21,7 @@ use station::Answer;
 
 // The answer of a rule that gives one number.
 #[repr(C)]
-#[derive(Drop)]
+#[derive(Clone, Copy)]
 pub struct RuleAnswer {
     pub number: u64,
     pub section: u64,
@@ -118,7 +120,7 @@ pub extern "C" fn avulgjesh_sends_in_time(sum: u64) -> bool
 
 // The answer of the station.
 #[repr(C)]
-#[derive(Drop)]
+#[derive(Clone, Copy)]
 pub struct StationAnswer {
     pub number: u64,
     pub section: u64,

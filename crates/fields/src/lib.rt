@@ -1,5 +1,7 @@
 // What the words of a line say: which section its first word begins, and the number of each field. What they mean, crate `notation` defines.
 // A field that is not said is no error here: the line that it stands in says so. Every public routine answers for all input.
+#![tactic(auto)]
+
 ghost use Rattle.std.specs.Prelude.{◌≡◌, [], suc, ◌-◌, ◌^◌, min, get_or};
 ghost use Rattle.layout.specs.declared.Name.TheVariants as name;
 ghost use Rattle.words.specs.Words.{words_of, same};
@@ -19,7 +21,7 @@ const KEYWORDS: usize = 7;
 const KEYWORD: usize = 7;
 
 // What words say of a field: its number and the place behind them, or they do not say it.
-#[derive(Drop)]
+#[derive(Clone, Copy)]
 pub enum Taken {
     Said(u64, usize),
     NotSaid,

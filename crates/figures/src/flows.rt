@@ -12,7 +12,7 @@ use station::{Answer, Flow, MOST_FLOWS};
 pub const FLOWS: usize = MOST_FLOWS * 3;
 
 // What the station says of flows: that they have no busy length, or their figure.
-#[derive(Drop)]
+#[derive(Clone, Copy)]
 pub struct Outcome {
     pub endless: bool,
     pub figure: u64,

@@ -1,5 +1,7 @@
 // The frame rule: the tick, the line size of a packet, the packets of a message, and the gap between the frames of a VL.
 // Every routine answers for all input: what 01 gives no number for is refused.
+#![tactic(auto)]
+
 ghost use Rattle.std.specs.Prelude.{◌≡◌};
 ghost use Rattle.base.specs.Said.{ruled};
 ghost use Rattle.frame.specs.Reply.{said};
@@ -8,14 +10,14 @@ ghost use Rattle.frame.specs.Frame.{line_of};
 ghost use Rattle.frame.specs.Offered.{largest_line_of, packets_of};
 ghost use Rattle.frame.specs.Gap.{gap_of, code_of, ms_of};
 
-#[derive(Drop)]
+#[derive(Clone, Copy)]
 pub enum Speed {
     Mbit100,
     Mbit10,
 }
 
 // A tick is 80 ns. What belongs to the tick is named with it; a time itself is a plain number of ticks, so a tick has no field.
-#[derive(Drop)]
+#[derive(Clone, Copy)]
 pub struct Tick;
 
 impl Tick {
@@ -49,7 +51,7 @@ impl Tick {
 }
 
 // The numbers of a frame, in bytes: it has no field, as a tick has none.
-#[derive(Drop)]
+#[derive(Clone, Copy)]
 pub struct Frame;
 
 impl Frame {
@@ -71,7 +73,7 @@ impl Frame {
 }
 
 // What a rule gives, or its refusal (4).
-#[derive(Drop)]
+#[derive(Clone, Copy)]
 pub enum Reply {
     Value(u64),
     Refused,

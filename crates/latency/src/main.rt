@@ -1,6 +1,8 @@
 // Reads a packed table from standard input and writes its result rows, or the word refused with number, section and row.
 // All that matters is in `analysis`; here is what prints: each line is proved to be its numbers in decimal. A read or a write that fails is
 // said on standard error, and nothing is written after it.
+#![tactic(auto)]
+
 ghost use Rattle.std.specs.Prelude.{◌≡◌, ◌+◌, ◌*◌, ◌≤◌, length, take, drop};
 ghost use Rattle.text.specs.Text.{line};
 ghost use Rattle.text.specs.Refusal.{refusal};

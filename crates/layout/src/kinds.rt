@@ -9,7 +9,7 @@ use crate::sizes;
 use sizes::{KINDS, TABLE};
 
 // The fields of a record and its bytes.
-#[derive(Drop)]
+#[derive(Clone, Copy)]
 struct Lengths(usize, usize);
 
 fn lengths_of(kind: usize) -> Lengths

@@ -1,5 +1,7 @@
 // The layout of the packed table as data, and a record of it as a row of numbers: read, tested, meant, stored and written.
 // One body serves every kind of record: what differs between kinds stands in `shapes`, `orders` and `kinds`.
+#![tactic(auto)]
+
 mod fields;
 mod kinds;
 mod orders;
@@ -14,7 +16,7 @@ pub use rows::{converted_number, converted_row, fault_of, put_row, read_row};
 pub use shapes::shape_at;
 
 // What a stored field stands for.
-#[derive(Drop)]
+#[derive(Clone, Copy)]
 pub enum Kind {
     // a number from the first to the second
     Number(u64, u64),
@@ -31,7 +33,7 @@ pub enum Kind {
 }
 
 // What a field is called.
-#[derive(Drop)]
+#[derive(Clone, Copy)]
 pub enum Name {
     Version,
     EndSystems,
@@ -63,7 +65,7 @@ pub enum Name {
 }
 
 // A field: its name, its width in bits and what it stands for.
-#[derive(Drop)]
+#[derive(Clone, Copy)]
 pub struct Shape {
     pub name: Name,
     pub width: usize,
@@ -71,21 +73,21 @@ pub struct Shape {
 }
 
 // Two fields of a record of which one is at most the other.
-#[derive(Drop)]
+#[derive(Clone, Copy)]
 pub struct Order {
     pub lesser: Name,
     pub greater: Name,
 }
 
 // Whether numbers are read from the table or are to be written to it.
-#[derive(Drop)]
+#[derive(Clone, Copy)]
 pub enum Way {
     Reading,
     Writing,
 }
 
 // The first test of a row that fails: a field's own range by the field's place, then the pairs of fields that are not in order.
-#[derive(Drop)]
+#[derive(Clone, Copy)]
 pub enum Fault {
     Test(u64),
     Nothing,

@@ -7,7 +7,7 @@ use crate::sizes::{MOST_HOPS, MOST_PORTS, MOST_STREAMS, MOST_SYSTEMS, MOST_VLS};
 use crate::{Kind, Name, Shape};
 
 // A shape in one line: the field's name, its width in bits and what it stands for.
-#[derive(Drop)]
+#[derive(Clone, Copy)]
 struct Field(Name, usize, Kind);
 
 // The shape of field k of a record of this kind, blank where it has none.

@@ -1,14 +1,15 @@
 // The records of a network, which code and definitions share; the network itself is a value of the definitions (specs/).
 // Every time is in ticks, rows are numbered from 0, and there are no bytes here.
+#![tactic(auto)]
 
 // An end system: the ticks that a byte takes on its link.
-#[derive(Drop)]
+#[derive(Clone, Copy)]
 pub struct EndSystem {
     pub perbyte: u64,
 }
 
 // A virtual link: its end system, its gap (BAG), its number of sub-links and its largest frame in bytes.
-#[derive(Drop)]
+#[derive(Clone, Copy)]
 pub struct Vl {
     pub system: usize,
     pub gap: u64,
@@ -17,7 +18,7 @@ pub struct Vl {
 }
 
 // A message stream: its VL and sub-link (from 0), whether it is sampling, its greatest and least size in bytes, its period and its jitter.
-#[derive(Drop)]
+#[derive(Clone, Copy)]
 pub struct Stream {
     pub vl: usize,
     pub sublink: usize,
@@ -29,7 +30,7 @@ pub struct Stream {
 }
 
 // A switch port: the ticks that a byte takes on its link, and the bounds of the switch delay before it.
-#[derive(Drop)]
+#[derive(Clone, Copy)]
 pub struct Port {
     pub perbyte: u64,
     pub least: u64,
@@ -37,14 +38,14 @@ pub struct Port {
 }
 
 // What comes before a hop: its parent's row, where it has one.
-#[derive(Drop)]
+#[derive(Clone, Copy)]
 pub enum Parent {
     Root,
     After(usize),
 }
 
 // A hop: one VL at one port, after the hop that is its parent, if it has one.
-#[derive(Drop)]
+#[derive(Clone, Copy)]
 pub struct Hop {
     pub vl: usize,
     pub port: usize,

@@ -1,5 +1,7 @@
 // Tables as text: which fields a line has, what they are called and what begins the line. Which there are, and in which order, the layout says.
 // Every public routine answers for all input.
+#![tactic(auto)]
+
 mod naming;
 
 ghost use Rattle.std.specs.Prelude.{◌≡◌, get_or};
@@ -13,7 +15,7 @@ use layout::sizes::KINDS;
 pub use naming::{put_keyword, put_name};
 
 // How the number of a field is written: in decimal, as one of its words, or as a parent.
-#[derive(Drop)]
+#[derive(Clone, Copy)]
 pub enum Form {
     Decimal,
     Choice,

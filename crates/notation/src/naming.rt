@@ -11,7 +11,7 @@ use layout::Name;
 const LONGEST: usize = 22;
 
 // Words by value: the bytes, with spaces behind them, and how many they are.
-#[derive(Drop)]
+#[derive(Clone, Copy)]
 struct Padded([u8; LONGEST], usize);
 
 fn put_padded(text: &mut [u8], at: usize, words: Padded) -> usize

@@ -1,5 +1,7 @@
 // Reads a table's text from standard input and writes the packed table to standard output.
 // What table a text makes, `texts` says. On anything wrong nothing is written there, and one sentence on standard error says what.
+#![tactic(auto)]
+
 mod mistakes;
 mod names;
 mod refusals;

@@ -10,7 +10,7 @@ use words::Span;
 const KEYWORD: usize = 7;
 
 // A line of a text: its number from 1, and from where to before which place it goes.
-#[derive(Drop)]
+#[derive(Clone, Copy)]
 struct Line {
     number: usize,
     from: usize,

@@ -1,5 +1,7 @@
 // What a supplier of tables links: the unpacker and the writer of the packed table, as functions that C calls.
 // Bytes and flat lists of numbers are lent; a struct of number, section, row, test and values goes out. Both answer for all input, as the unpacker and the writer do.
+#![tactic(auto)]
+
 ghost use Rattle.std.specs.Prelude.{length};
 ghost use Rattle.table.specs.Lists.{lists};
 ghost use Rattle.table.specs.Unpack.{Unpacks};
@@ -11,7 +13,7 @@ use writer::write;
 
 // The unpacker's answer, and how many records it wrote to each list.
 #[repr(C)]
-#[derive(Drop)]
+#[derive(Clone, Copy)]
 pub struct UnpackAnswer {
     pub number: u64,
     pub section: u64,
@@ -70,7 +72,7 @@ pub extern "C" fn avulgjesh_unpack(
 
 // The writer's answer, and how many bytes the table has.
 #[repr(C)]
-#[derive(Drop)]
+#[derive(Clone, Copy)]
 pub struct WriteAnswer {
     pub number: u64,
     pub section: u64,

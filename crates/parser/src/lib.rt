@@ -1,5 +1,7 @@
 // Tables as text, read: the numbers of each section in the list that is lent for it, or the first mistake of a text.
 // Every public routine answers for all input.
+#![tactic(auto)]
+
 mod filling;
 mod lines;
 mod mistakes;
@@ -21,7 +23,7 @@ use layout::sizes;
 pub use mistakes::{Fault, Mistake, mistake_of};
 
 // A text that was read: its first mistake, and how many numbers each list has, none where there is a mistake.
-#[derive(Drop)]
+#[derive(Clone, Copy)]
 pub struct Parsed {
     pub mistake: Mistake,
     pub lengths: [usize; 6],

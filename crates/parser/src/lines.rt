@@ -12,7 +12,7 @@ use layout::sizes::LONGEST;
 use words::Numeral;
 
 // What a line is: one without words, one whose first word is no keyword, one that says its fields, or one that does not.
-#[derive(Drop)]
+#[derive(Clone, Copy)]
 pub(crate) enum Sort {
     Silent,
     Unknown,
@@ -21,7 +21,7 @@ pub(crate) enum Sort {
 }
 
 // A line: its sort, its section, how many of its fields it says, their numbers, and the place behind them.
-#[derive(Drop)]
+#[derive(Clone, Copy)]
 pub(crate) struct Line {
     pub(crate) sort: Sort,
     pub(crate) section: usize,

@@ -14,7 +14,7 @@ use crate::lines::{Line, Sort, line_of};
 
 // What is wrong with a text: a first word that is no keyword, a field that is not said, words behind the last field, a line more than its
 // section may have, and no line of delays.
-#[derive(Drop)]
+#[derive(Clone, Copy)]
 pub enum Fault {
     Nothing,
     Unknown,
@@ -25,7 +25,7 @@ pub enum Fault {
 }
 
 // The first mistake of a text: its line from 1, the section and field, and the place of the word, which is empty where the line ends there.
-#[derive(Drop)]
+#[derive(Clone, Copy)]
 pub struct Mistake {
     pub fault: Fault,
     pub line: usize,

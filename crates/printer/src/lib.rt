@@ -1,5 +1,7 @@
 // Puts a record of a table as a line of words at a place of a text, and answers the place behind it: the delays, the version, and the
 // records of every section. Every routine answers for all input: what does not fit is left out.
+#![tactic(auto)]
+
 ghost use Rattle.std.specs.Prelude.{[], ◌∷◌, ◌++◌, ◌≡◌, min, eqb, get_or, length};
 ghost use Rattle.base.specs.Pick.{pick};
 ghost use Rattle.layout.specs.declared.Name.TheVariants as name;

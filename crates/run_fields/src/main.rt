@@ -1,5 +1,7 @@
 // Prints the fields of the packed table as docs/TABLE.md has them: each section's records, fields and pairs in order, by their tests.
 // Numbers come from the layout that the reader goes by; only the words stand here. The lines are compared with stdout, and TABLE.md with those.
+#![tactic(auto)]
+
 mod words;
 
 use layout::sizes::{KINDS, LONGEST, MOST_ROWS};

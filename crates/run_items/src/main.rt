@@ -1,5 +1,7 @@
 // Reads many tables to analyse (T) or unpack (U) and many lists to write (W), one item after the other, and writes each answer.
 // The items and the answers come from an implementation of 01 that shares nothing with this one; tests/held says how each is laid out.
+#![tactic(auto)]
+
 mod counts;
 mod input;
 mod output;

@@ -1,5 +1,7 @@
 // Runs the frame rule on the sizes and times that source 000 publishes, on 01's numbers 1 and 2, and at the ends of its ranges.
 // It writes one line a case; the lines are compared with stdout.
+#![tactic(auto)]
+
 use frame::{Reply, Tick};
 use libc::STDOUT_FILENO;
 

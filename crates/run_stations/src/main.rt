@@ -1,5 +1,7 @@
 // Stations built by formula: prints the busy length and the figure of each, by both doors of the station, numbers and records.
 // Those of bench/stations.h that run for seconds are left out.
+#![tactic(auto)]
+
 mod plan;
 mod records;
 

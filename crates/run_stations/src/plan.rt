@@ -5,7 +5,7 @@ ghost use Rattle.std.specs.Prelude.{◌<◌};
 use station::Flow;
 
 // Flows of one period. All of them bring one at tick 0. The second of flow j comes at tick (first + j * gap) mod period, or a whole period later where that is 0: so the jitter is what is left of the period then, and `rounds` periods more bring as many others at tick 0. The cost is one more for the first `more` of them.
-#[derive(Drop)]
+#[derive(Clone, Copy)]
 pub struct Group {
     pub count: usize,
     pub period: u64,
@@ -17,7 +17,7 @@ pub struct Group {
 }
 
 // Flows by a generator of numbers. Where `base` is 0, those of a port: gaps of 12,500 * 2^code, costs of 84 to 84 + spread. Else those of a queue: periods from `base` on in steps, and 1 to 1 + spread packets of a gap of 12,500 ticks.
-#[derive(Drop)]
+#[derive(Clone, Copy)]
 pub struct Mix {
     pub seed: u64,
     pub low: u64,
@@ -27,7 +27,7 @@ pub struct Mix {
 }
 
 // A mix where it has a seed, else groups one after the other.
-#[derive(Drop)]
+#[derive(Clone, Copy)]
 pub struct Plan {
     pub one: Group,
     pub two: Group,

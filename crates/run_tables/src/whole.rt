@@ -41,7 +41,7 @@ pub fn first_bytes(bytes: &[u8], n: usize) {
 }
 
 // The lists of a table, but for its hops, and the unpacker's answer.
-#[derive(Drop)]
+#[derive(Clone, Copy)]
 pub struct Lists {
     pub answer: Answer,
     pub header: [u64; 5],

@@ -1,5 +1,7 @@
 // The search for the least length that serves and the greatest excess below it, over any work that a longer span brings no less of.
 // All of it is by value: whoever has the flows walks over them, adds each to a tally and hands the tally to a turn. Every function answers for every input.
+#![tactic(auto)]
+
 mod compare;
 mod pass;
 mod turns;
@@ -8,7 +10,7 @@ pub use pass::add;
 pub use turns::{begin, going, span, turn};
 
 // What one kind of message brings: at most one in a period, save that each may come up to a jitter late.
-#[derive(Drop)]
+#[derive(Clone, Copy)]
 pub struct Flow {
     pub period: u64,
     pub jitter: u64,
@@ -16,7 +18,7 @@ pub struct Flow {
 }
 
 // What a pass finds.
-#[derive(Drop)]
+#[derive(Clone, Copy)]
 pub struct Tally {
     // whether each flow is in range
     pub in_range: bool,
@@ -29,14 +31,14 @@ pub struct Tally {
 }
 
 // The greatest work less span that was found, and the least span that gives it.
-#[derive(Drop)]
+#[derive(Clone, Copy)]
 pub struct Best {
     pub figure: u64,
     pub span: u64,
 }
 
 // Where the search stands.
-#[derive(Drop)]
+#[derive(Clone, Copy)]
 pub enum Search {
     // on the way up: no length up to this span serves, and it is the span of the next pass; whether the work is even is known once a span of 0 is passed
     Rising { span: u64, best: Best, even: bool },

@@ -1,5 +1,7 @@
 // The sheet: the network of an accepted table in memory, as one list of numbers, and its records as they are read off it, in ticks.
 // It holds the lists of the table one after the other, each at its place whatever the counts are, behind the header's numbers and the counts. Any array is a sheet.
+#![tactic(auto)]
+
 mod walking;
 
 ghost use Rattle.std.specs.Prelude.{◌≡◌, ◌≤◌, min, eqb, length};
@@ -16,7 +18,7 @@ use network::{EndSystem, Hop, Parent, Port, Stream, Vl};
 pub use walking::{hop_row, leaves, stream_row};
 
 // The delays of sending and receiving.
-#[derive(Drop)]
+#[derive(Clone, Copy)]
 pub struct Delays {
     pub send_least: u64,
     pub send_greatest: u64,

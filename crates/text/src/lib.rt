@@ -1,5 +1,7 @@
 // Puts bytes, numbers in decimal, lines of numbers and the line of a refusal at a place of a text, and answers the place behind them.
 // Every routine answers for all input: what does not fit is left out.
+#![tactic(auto)]
+
 ghost use Rattle.std.specs.Prelude.{[], ◌∷◌};
 ghost use Rattle.text.specs.Text.{decimal, spaced_from, spaced, line, Puts};
 ghost use Rattle.text.specs.Refusal.{refusal};

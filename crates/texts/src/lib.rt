@@ -1,5 +1,7 @@
 // Tables as text, both ways: `pack` makes a table of a text, and answers for all input. That a table goes to text and back is a theorem of
 // specs/, said of what the routines promise.
+#![tactic(auto)]
+
 ghost use Rattle.std.specs.Prelude.{◌≤◌, length, get_or, take};
 ghost use Rattle.table.specs.Write.{Writes};
 ghost use Rattle.texts.specs.Packing.{PacksTo};
@@ -9,7 +11,7 @@ use parser::{Fault, Mistake};
 use table::Written;
 
 // What packing a text came to: its first mistake, or the writer's answer for the lists that it says.
-#[derive(Drop)]
+#[derive(Clone, Copy)]
 pub enum Packed {
     Mistaken(Mistake),
     Answered(Written),

@@ -1,6 +1,8 @@
 // Reads a packed table from standard input and writes it as text, a line for each record; or the word refused with number, section and row.
 // What the words are, `printer` says; here is what prints: each line is proved to be that of its record. A read or a write that fails is
 // said on standard error, and nothing is written after it.
+#![tactic(auto)]
+
 ghost use Rattle.std.specs.Prelude.{[], ◌∷◌, ◌++◌, true, ◌≡◌, ◌+◌, ◌*◌, ◌≤◌, length, take};
 ghost use Rattle.layout.specs.Rows.{listed};
 ghost use Rattle.text.specs.Refusal.{refusal};

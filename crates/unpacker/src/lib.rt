@@ -1,5 +1,7 @@
 // The unpacker: the records of an accepted table as lists of numbers, and zeros behind them or on a refusal.
 // Bytes come in from anywhere: it answers for all of them. What it promises is `Unpacks` of crate `table`; the parts of it are public as well, for who keeps the lists in one place.
+#![tactic(auto)]
+
 mod examine;
 mod filling;
 mod judging;

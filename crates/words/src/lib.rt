@@ -1,25 +1,27 @@
 // Finds the lines and words of a text by their places, and tells what a word is: this word, or that number.
 // Every public routine answers for all input: a place past the text's end has nothing behind it.
+#![tactic(auto)]
+
 ghost use Rattle.std.specs.Prelude.{◌≡◌, ◌+◌, ◌-◌, ◌*◌, ◌^◌, min};
 ghost use Rattle.text.specs.Text.{digit};
 ghost use Rattle.words.specs.Words.{blank, same, numeral};
 ghost use Rattle.words.specs.Places.{part, first_place, line_end, ends, word_at, sought, told};
 
 // The bytes of a text from one place to before another.
-#[derive(Drop)]
+#[derive(Clone, Copy)]
 pub struct Span {
     pub from: usize,
     pub to: usize,
 }
 
-#[derive(Drop)]
+#[derive(Clone, Copy)]
 pub enum Numeral {
     Number(u64),
     NotANumber,
 }
 
 // What a walk over the bytes looks for.
-#[derive(Drop)]
+#[derive(Clone, Copy)]
 enum Sought {
     LineFeed,
     Word,

@@ -1,5 +1,7 @@
 // The writer: cleared bytes, and on acceptance the header and the records of each list, one after the other.
 // `layout` turns a record to stored numbers and puts it into the bytes. What it promises is `Writes` of crate `table`.
+#![tactic(auto)]
+
 mod refusals;
 mod source;
 
