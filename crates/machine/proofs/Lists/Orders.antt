@@ -38,6 +38,7 @@ module _ {X : Type 0} where
   none_in (x ∷ l) h = absurd (h x (Memᴰ.head refl))
 
   pub is_gathered : (f : ℕ → List X) (ns : List ℕ) (i : ℕ) (x : X) → Memᴰ i ns → Memᴰ x (f i) → Memᴰ x (gather f ns)
+  is_gathered f [] i x x4 k = elim x4 [ ]
   is_gathered f (n ∷ ns) i x (Memᴰ.head e) k = Memᴰ.append_left (gather f ns) (subst (λ (m : ℕ). Memᴰ x (f m)) e k)
   is_gathered f (n ∷ ns) i x (Memᴰ.tail m) k = Memᴰ.append_right (f n) (is_gathered f ns i x m k)
 

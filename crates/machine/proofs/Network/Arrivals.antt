@@ -51,6 +51,7 @@ module _ (net : Network) (v i : ℕ) where
 
   pub is_brought : (ms : List Message) (m : Message) (x : Packet) → Memᴰ m ms → T (test m) → Memᴰ x (packets_in net m)
       → Memᴰ x (to_lane net v i ms)
+  is_brought [] m x x5 h k = elim x5 [ ]
   is_brought (n ∷ ms) m x (mathlib.Core.List.Memᴰ.head e) h k =
       let there : Memᴰ x (cond (test n) (packets_in net n) []) = rw (← e, is_true (test m) h) k in
       mathlib.Core.List.Memᴰ.append_left (to_lane net v i ms) there

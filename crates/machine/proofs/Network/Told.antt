@@ -72,6 +72,7 @@ good net r per t m k =
 -- each release has its message
 pub message_of : (t i : ℕ) (xs : List Release) (x : Release) → Memᴰ x xs
     → (m : Message) × Memᴰ m (messages t i xs) × (m.stream ≡ x.stream)
+message_of t i [] x x3 = elim x3 [ ]
 message_of t i (y ∷ xs) x (Memᴰ.head e) =
     (record { released = t; place = i; stream = y.stream; size = y.size }, Memᴰ.head refl, ap (λ (z : Release). z.stream) (sym e))
 message_of t i (y ∷ xs) x (Memᴰ.tail m) = let w = message_of t (suc i) xs x m in (w.0, Memᴰ.tail w.1, w.2)

@@ -59,6 +59,7 @@ module _ {Job : Type 0} (cost : Job → ℕ) where
 
   plan_has : (e : ℕ) (l : List Job) (j : Job) → Memᴰ j l → (n : ℕ) × Memᴰ (record { job = j; ends = n }) (plan e l)
   unfolding plan
+  plan_has e [] j x' = elim x' [ ]
   plan_has e (i ∷ l) j (mathlib.Core.List.Memᴰ.head p) = (e + cost i, mathlib.Core.List.Memᴰ.head (ap (λ (z : Job). record { job = z; ends = e + cost i }) p))
   plan_has e (i ∷ l) j (mathlib.Core.List.Memᴰ.tail m) = let w = plan_has (e + cost i) l j m in (w.0, mathlib.Core.List.Memᴰ.tail w.1)
 

@@ -216,6 +216,7 @@ module _ {X : Type 0} (n gap : ℕ) (by from : X → ℕ) where
         -- ---- forward: each packet that comes is handed over
         due_mem : (l : List X) (e m : ℕ) (x : X) → Due e m l → Memᴰ x l → m + nb ≤ by x + e
         unfolding Due
+        due_mem [] e m x h x4 = elim x4 [ ]
         due_mem (y ∷ l) e m x h (Memᴰ.head p) = omega (arith, h.0, ap by p)
         due_mem (y ∷ l) e m x h (Memᴰ.tail i) = omega (arith, due_mem l e (m + nb) x h.1 i)
 

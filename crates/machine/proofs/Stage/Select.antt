@@ -48,6 +48,7 @@ module _ {X Y : Type 0} (p : X → Bool) (f : X → Y) where
       (Memᴰ.append_cases (cond (p x) (f x ∷ []) []) m)
 
   pub is_chosen : (l : List X) (x : X) → Memᴰ x l → T (p x) → Memᴰ (f x) (chosen p f l)
+  is_chosen [] x x4 h = elim x4 [ ]
   is_chosen (y ∷ l) x (Memᴰ.head e) h = Memᴰ.append_left (chosen p f l)
       (by_test (p y) (λ (o : List Y). Memᴰ (f x) o) (λ k. Memᴰ.head (ap f e)) (λ k. absurd (k (subst (λ (z : X). T (p z)) e h))))
   is_chosen (y ∷ l) x (Memᴰ.tail m) h = Memᴰ.append_right (cond (p y) (f y ∷ []) []) (is_chosen l x m h)

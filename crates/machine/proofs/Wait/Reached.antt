@@ -87,6 +87,7 @@ module _ (net : Network) (sound : Sound net) (win : Windows net) (aim : Aim net)
   back = chosen mine (λ m. m) due
 
   some_in : {X : Type 0} (l : List X) (x : X) → Memᴰ x l → 0 < length l
+  some_in {X = X} [] x m = elim m [ ]
   some_in (y ∷ l) x m = omega arith
 
   back_some : 0 < length back
