@@ -1,0 +1,13 @@
+-- `layout::fields::is_refused` meets its contract: of the two replies one is numbered 4.
+-- Assumes nothing.
+use mathlib.Core.Path.{refl}
+use Rattle.frame.specs.Reply.{said}
+use Rattle.layout.proofs.fields.is_refused.Goals as goal
+
+pub returns-in-Value : goal.returns-in-Value
+unfolding said
+returns-in-Value c = rw c.in-Value.is refl
+
+pub returns-in-Refused : goal.returns-in-Refused
+unfolding said
+returns-in-Refused c = rw c.in-Refused.is refl
