@@ -1,11 +1,16 @@
 // How a program reads, writes and gives up: a read that fails is told from the end of the input, and every write says whether it went out whole.
-// Every public routine answers for all input. What is read and written no contract can say: C's read and write are assumed, and only their answers.
+// Every public routine answers for all input. What standard input gives and what is written no contract can say: C's read and write are assumed, and
+// only their answers. Of a reader whose bytes are known, `read` says which of them it took.
 #![tactic(auto)]
 
 ghost use Rattle.std.specs.Prelude.{false, ◌≡◌, ◌<◌, length};
-ghost use Rattle.console.specs.Told.{told, Within, Counted};
+ghost use Rattle.console.specs.Told.{told, Within, Counted, Moved, Taken};
 
-use libc::{STDERR_FILENO, STDIN_FILENO, STDOUT_FILENO};
+use std::io::{Read, Stdin};
+
+const STDOUT_FILENO: i32 = 1;
+
+const STDERR_FILENO: i32 = 2;
 
 // What one call of C's read came to.
 #[derive(Clone, Copy)]
@@ -35,21 +40,25 @@ fn tell(got: isize, moved: usize) -> Turn
     Turn::Some(moved)
 }
 
-fn read_once(fd: i32, part: &mut [u8]) -> Turn
-    ensures { Within result (length part.old) }
+// One read, given as C's read answers: so many bytes, or -1 for one that failed.
+fn read_once<R: Read>(from: &mut R, part: &mut [u8]) -> Turn
+    ensures within { Within result (length part.old) }
+    ensures moved { Moved result (R.remaining from.old) (R.remaining from.new) part.new }
 {
-    let got = libc::read(fd, part);
-    let moved = io::count(got, part);
-    tell(got, moved)
+    match from.read(part) {
+        Ok(moved) => tell(moved as isize, moved),
+        Err(_) => tell(-1, 0),
+    }
 }
 
 // Reads until the buffer is full, the input ends or a read fails.
-pub fn read(fd: i32, buf: &mut [u8]) -> Input
-    ensures { Counted result buf.new }
+pub fn read<R: Read>(from: &mut R, buf: &mut [u8]) -> Input
+    ensures counted { Counted result buf.new }
+    ensures taken { Taken result (R.remaining from.old) (R.remaining from.new) buf.new }
 {
     let mut done = 0;
     while done < buf.len() {
-        match read_once(fd, &mut buf[done..]) {
+        match read_once(from, &mut buf[done..]) {
             Turn::Some(n) => done += n,
             Turn::End => return Input::Bytes(done),
             Turn::Fault => return Input::Failed,
@@ -58,10 +67,11 @@ pub fn read(fd: i32, buf: &mut [u8]) -> Input
     Input::Bytes(done)
 }
 
-pub fn read_input(buf: &mut [u8]) -> Input
+// The same of standard input.
+pub fn read_input(mut stdin: Stdin, buf: &mut [u8]) -> Input
     ensures { Counted result buf.new }
 {
-    read(STDIN_FILENO, buf)
+    read(&mut stdin, buf)
 }
 
 // Writes the first bytes of a text to standard output, and answers whether all of them went out. Of a text that has fewer none does.

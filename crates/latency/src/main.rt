@@ -80,9 +80,9 @@ fn answered(table: &[u8]) -> bool {
     write_refusal(answer)
 }
 
-fn main() {
+fn main(rt: HostRuntime) {
     let mut bytes = [0u8; MOST_BYTES];
-    let Input::Bytes(n) = console::read_input(&mut bytes) else {
+    let Input::Bytes(n) = console::read_input(rt.stdin(), &mut bytes) else {
         console::give_up(b"latency: the table could not be read\n");
         return;
     };

@@ -80,9 +80,9 @@ fn pack_first(buffer: &[u8], used: usize) {
     pack(&buffer[0..used]);
 }
 
-fn main() {
+fn main(rt: HostRuntime) {
     let mut bytes = [0u8; MOST_BYTES];
-    let Input::Bytes(n) = console::read_input(&mut bytes) else {
+    let Input::Bytes(n) = console::read_input(rt.stdin(), &mut bytes) else {
         console::give_up(b"pack: the text could not be read\n");
         return;
     };

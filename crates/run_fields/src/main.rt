@@ -6,7 +6,8 @@ mod words;
 
 use layout::sizes::{KINDS, LONGEST, MOST_ROWS};
 use layout::{Kind, Shape, Way};
-use libc::STDOUT_FILENO;
+
+const STDOUT_FILENO: i32 = 1;
 
 // The version whose sections are printed.
 const VERSION: u64 = 1;

@@ -4,15 +4,16 @@ ghost use Rattle.std.specs.Prelude.{◌<◌, ◌≤◌};
 
 use crate::counts::{LONGEST, all_of, of_bytes, of_numbers};
 use crate::output::byte_value;
+use std::io::Stdin;
 
 const LONGEST_BYTES: usize = 28_800;
 
 // The next byte; 0 where the input ends.
-pub fn read_byte() -> u64
+pub fn read_byte(stdin: Stdin) -> u64
     ensures { result < 256 }
 {
     let mut bytes = [0u8; 1];
-    console::read_input(&mut bytes);
+    console::read_input(stdin, &mut bytes);
     byte_value(bytes[0])
 }
 
@@ -28,11 +29,11 @@ fn value(bytes: &[u8]) -> u64 {
 }
 
 // A length of four bytes, at most `most`.
-pub fn read_length(most: usize) -> usize
+pub fn read_length(stdin: Stdin, most: usize) -> usize
     ensures { result ≤ most }
 {
     let mut bytes = [0u8; 4];
-    console::read_input(&mut bytes);
+    console::read_input(stdin, &mut bytes);
     let n = value(&bytes) as usize;
     if most < n {
         return most;
@@ -41,9 +42,9 @@ pub fn read_length(most: usize) -> usize
 }
 
 // The first n of these bytes.
-pub fn read_bytes(bytes: &mut [u8], n: usize) {
+pub fn read_bytes(stdin: Stdin, bytes: &mut [u8], n: usize) {
     let used = of_bytes(n, bytes);
-    console::read_input(&mut bytes[..used]);
+    console::read_input(stdin, &mut bytes[..used]);
 }
 
 // The first n numbers of the list are those that bytes spell, eight bytes each.
@@ -65,19 +66,19 @@ fn values(bytes: &[u8], list: &mut [u64], n: usize) {
     }
 }
 
-pub fn read_numbers(list: &mut [u64], n: usize) {
+pub fn read_numbers(stdin: Stdin, list: &mut [u64], n: usize) {
     let mut bytes = [0u8; LONGEST_BYTES];
-    read_bytes(&mut bytes, all_of(n, 8));
+    read_bytes(stdin, &mut bytes, all_of(n, 8));
     values(&bytes, list, n);
 }
 
 // The lengths of the six lists.
-pub fn read_lengths() -> [usize; 6] {
-    let header = read_length(8);
-    let systems = read_length(66);
-    let vls = read_length(1_030);
-    let streams = read_length(LONGEST);
-    let ports = read_length(390);
-    let hops = read_length(3_080);
+pub fn read_lengths(stdin: Stdin) -> [usize; 6] {
+    let header = read_length(stdin, 8);
+    let systems = read_length(stdin, 66);
+    let vls = read_length(stdin, 1_030);
+    let streams = read_length(stdin, LONGEST);
+    let ports = read_length(stdin, 390);
+    let hops = read_length(stdin, 3_080);
     [header, systems, vls, streams, ports, hops]
 }

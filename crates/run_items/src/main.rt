@@ -13,6 +13,7 @@ use crate::output::{
     TEXT, accepts, end_item, flush, put_answer, put_first, put_hex_bytes, rest, rest_of_bytes,
 };
 use crate::unpacking::unpack_item;
+use std::io::Stdin;
 use table::Answer;
 use text::put_line;
 
@@ -66,11 +67,11 @@ fn analyse_first(bytes: &[u8], n: usize, res: &mut [u64], room: usize) {
     analyse_to(&bytes[..used], &mut res[..lent]);
 }
 
-fn analyse_item() {
-    let room = read_length(MOST_NUMBERS);
-    let n = read_length(MOST_BYTES);
+fn analyse_item(stdin: Stdin) {
+    let room = read_length(stdin, MOST_NUMBERS);
+    let n = read_length(stdin, MOST_BYTES);
     let mut bytes = [0u8; MOST_BYTES];
-    read_bytes(&mut bytes, n);
+    read_bytes(stdin, &mut bytes, n);
     let mut result = [BEFORE; MOST_NUMBERS];
     analyse_first(&bytes, n, &mut result, room);
 }
@@ -128,21 +129,21 @@ fn write_first(
     );
 }
 
-fn write_item() {
-    let lengths = read_lengths();
-    let room = read_length(MOST_BYTES);
+fn write_item(stdin: Stdin) {
+    let lengths = read_lengths(stdin);
+    let room = read_length(stdin, MOST_BYTES);
     let mut header = [BEFORE; 8];
     let mut systems = [BEFORE; 66];
     let mut vls = [BEFORE; 1_030];
     let mut streams = [BEFORE; LONGEST];
     let mut ports = [BEFORE; 390];
     let mut hops = [BEFORE; 3_080];
-    read_numbers(&mut header, lengths[0]);
-    read_numbers(&mut systems, lengths[1]);
-    read_numbers(&mut vls, lengths[2]);
-    read_numbers(&mut streams, lengths[3]);
-    read_numbers(&mut ports, lengths[4]);
-    read_numbers(&mut hops, lengths[5]);
+    read_numbers(stdin, &mut header, lengths[0]);
+    read_numbers(stdin, &mut systems, lengths[1]);
+    read_numbers(stdin, &mut vls, lengths[2]);
+    read_numbers(stdin, &mut streams, lengths[3]);
+    read_numbers(stdin, &mut ports, lengths[4]);
+    read_numbers(stdin, &mut hops, lengths[5]);
     let mut out = [BEFORE_BYTE; MOST_BYTES];
     write_first(
         lengths, &header, &systems, &vls, &streams, &ports, &hops, &mut out, room,
@@ -150,20 +151,20 @@ fn write_item() {
 }
 
 // An item of this kind; any other ends the run.
-fn item(kind: u64) -> bool {
+fn item(stdin: Stdin, kind: u64) -> bool {
     match kind {
-        84 => analyse_item(),
-        85 => unpack_item(),
-        87 => write_item(),
+        84 => analyse_item(stdin),
+        85 => unpack_item(stdin),
+        87 => write_item(stdin),
         _ => return false,
     }
     true
 }
 
-fn main() {
+fn main(rt: HostRuntime) {
     let mut left = 1_000_000u64;
     while 0 < left {
-        if !item(read_byte()) {
+        if !item(rt.stdin(), read_byte(rt.stdin())) {
             return;
         }
         left -= 1;

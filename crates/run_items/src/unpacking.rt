@@ -5,6 +5,7 @@ use crate::input::{read_bytes, read_length, read_lengths};
 use crate::output::{TEXT, accepts, end_item, put_answer, put_numbers, rest};
 use crate::{BEFORE, MOST_BYTES};
 use layout::sizes;
+use std::io::Stdin;
 use table::Unpacked;
 
 // A line for each list where the table is accepted; none on a refusal.
@@ -110,11 +111,11 @@ fn unpack_first(
     );
 }
 
-pub fn unpack_item() {
-    let rooms = read_lengths();
-    let n = read_length(MOST_BYTES);
+pub fn unpack_item(stdin: Stdin) {
+    let rooms = read_lengths(stdin);
+    let n = read_length(stdin, MOST_BYTES);
     let mut bytes = [0u8; MOST_BYTES];
-    read_bytes(&mut bytes, n);
+    read_bytes(stdin, &mut bytes, n);
     let mut header = [BEFORE; 8];
     let mut systems = [BEFORE; 66];
     let mut vls = [BEFORE; 1_030];

@@ -3,7 +3,8 @@
 #![tactic(auto)]
 
 use frame::{Reply, Tick};
-use libc::STDOUT_FILENO;
+
+const STDOUT_FILENO: i32 = 1;
 
 fn text(words: &[u8]) {
     io::write_all(STDOUT_FILENO, words);

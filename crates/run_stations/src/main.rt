@@ -5,9 +5,10 @@
 mod plan;
 mod records;
 
-use libc::STDOUT_FILENO;
 use plan::{Group, Mix, Plan};
 use station::Answer;
+
+const STDOUT_FILENO: i32 = 1;
 
 fn show(a: Answer) {
     match a {

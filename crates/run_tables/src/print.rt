@@ -1,7 +1,8 @@
 // What a line is made of: words, numbers, answers and bytes in hex.
 // Each goes to the standard output at once.
-use libc::STDOUT_FILENO;
 use table::Answer;
+
+const STDOUT_FILENO: i32 = 1;
 
 pub fn text(words: &[u8]) {
     io::write_all(STDOUT_FILENO, words);

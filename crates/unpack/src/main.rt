@@ -145,9 +145,9 @@ fn written(table: &[u8]) -> bool {
     write_section(version, 5, &hops, u.hops)
 }
 
-fn main() {
+fn main(rt: HostRuntime) {
     let mut bytes = [0u8; MOST_BYTES];
-    let Input::Bytes(n) = console::read_input(&mut bytes) else {
+    let Input::Bytes(n) = console::read_input(rt.stdin(), &mut bytes) else {
         console::give_up(b"unpack: the table could not be read\n");
         return;
     };
