@@ -1,14 +1,11 @@
--- A name that an arm of a `match` leaves over is none of those that have an arm: the tag of a name is its number.
+-- A name that an arm of a `match` leaves over is none of those that have an arm: the tag of a name is its number, and the tag tells the name.
 -- Assumes nothing.
-use Prim.Native.Nat.{ℕ}
-use mathlib.Core.Path.{◌≡◌, refl, ◌∙◌, subst}
-use mathlib.Core.Bool.{false, not}
-use mathlib.Core.List.{List}
-use types.Run.{OneOf, miss}
-use mir.Val.{has_key}
+use mathlib.Core.Path.{◌≡◌, refl, sym, ◌∙◌}
+use mathlib.Core.Bool.{false}
+use denote.Enum.Bare.{tag_one}
 use denote.Enum.Declared.{tag_of}
 use borrow.Author.Tests.{ne_eqb}
-use lib.Dec.{T, eqb}
+use lib.Dec.{eqb}
 use Rattle.layout.specs.Names.{number_of}
 use Rattle.layout.specs.declared.Name.{Name}
 use Rattle.layout.specs.declared.Name.TheVariants as name
@@ -44,5 +41,5 @@ tag_is name.SwitchGreatest = refl
 tag_is name.Port = refl
 tag_is name.Parent = refl
 
-pub left_over : (n : Name) (ks : List ℕ) (k : ℕ) → T (not (has_key ks k)) → OneOf ks (tag_of names.the_type n) → eqb (number_of n) k ≡ false
-left_over n ks k h o = ne_eqb (number_of n) k (λ e. miss ks k h (subst (λ (y : ℕ). OneOf ks y) (tag_is n ∙ e) o))
+pub left_over : (n v : Name) → (n ≡ v → ⊥) → eqb (number_of n) (number_of v) ≡ false
+left_over n v h = ne_eqb (number_of n) (number_of v) (λ e. h (tag_one names.the_type tt n v (tag_is n ∙ e ∙ sym (tag_is v))))

@@ -3,7 +3,7 @@
 use Prim.Native.Nat.{ℕ, ◌-◌}
 use mathlib.Core.Path.{◌≡◌, refl, sym, ap, ◌∙◌}
 use mathlib.Core.List.{List}
-use mathlib.Core.Option.{Option, none, some, some-injective, some-ne-none, none-ne-some}
+use mathlib.Core.Option.{Option, some-injective, some-ne-none, none-ne-some}
 use lib.ListN.{length}
 use Rattle.base.specs.Settles.{Settles}
 use Rattle.words.proofs.Unique.{told_settles}

@@ -4,7 +4,7 @@ use Prim.Native.Nat.{ℕ, suc, ◌-◌, ◌^◌, ◌≤◌, ◌<◌, min}
 use mathlib.Core.Path.{◌≡◌, refl, ap}
 use mathlib.Core.Bool.{Bool, true, false}
 use mathlib.Core.List.{List, [], ◌∷◌, ◌++◌}
-use mathlib.Core.Option.{Option, none, some}
+use mathlib.Core.Option.{none, some}
 use lib.Dec.{eqb}
 use lib.ListN.{length, get_or, drop, drop_of_length-le}
 use lib.Seq.{drop-cons}
@@ -15,7 +15,7 @@ use Rattle.layout.specs.declared.Shape.{Shape}
 use Rattle.words.specs.Words.{numeral}
 use Rattle.notation.specs.declared.Form.TheVariants.{Decimal, Choice, Parent}
 use Rattle.notation.specs.Notation.{Word, keywords, word_in, line_fields, form_of, choices}
-use Rattle.notation.specs.Meant.{Taken, taken, row_from, field_from, Said, numbers, wrong, with_number, fields_from, of, silent, unknown, line_said}
+use Rattle.notation.specs.Meant.{taken, row_from, field_from, Said, numbers, wrong, with_number, fields_from, of, silent, unknown, line_said}
 use Rattle.notation.specs.Steps.{parent_from, shape_from}
 
 -- ---- a field

@@ -1,6 +1,6 @@
 -- What a text means: what words say of a field, the words of a line of its fields, and the lines of a text of the lists of a table.
 -- Assumes nothing.
-use Rattle.std.specs.Prelude.{ℕ, zero, suc, ◌+◌, ◌-◌, ◌^◌, min, List, [], ◌∷◌, ◌++◌, map, eqb, get_or}
+use Rattle.std.specs.Prelude.{ℕ, zero, suc, ◌-◌, ◌^◌, min, List, [], ◌∷◌, ◌++◌, map, eqb, get_or}
 use Rattle.std.proofs.Math.Option.{Option, none, some}
 use Rattle.base.specs.Pick.{pick}
 use Rattle.layout.specs.declared.Name.{Name}

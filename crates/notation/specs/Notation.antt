@@ -1,7 +1,7 @@
 -- A table as text (examples/README.md, "Writing a table"): the words that begin a line, the fields of a line, and each field in words.
 -- Which fields a line has, and in which order, the layout says; a field that a version does not have, of 0 bits, has no word.
 -- Assumes nothing.
-use Rattle.std.specs.Prelude.{ℕ, zero, suc, ◌^◌, ◌-◌, min, Bool, List, [], ◌∷◌, get_or, take, drop}
+use Rattle.std.specs.Prelude.{ℕ, zero, suc, List, [], ◌∷◌, get_or, take, drop}
 use Rattle.std.proofs.Math.Option.{Option, none, some}
 use Rattle.base.specs.Pick.{pick}
 use Rattle.layout.specs.declared.Name.{Name}
@@ -11,7 +11,7 @@ use Rattle.layout.specs.Names.{same as is}
 use Rattle.layout.specs.Layout.{layout, kind_of}
 use Rattle.layout.specs.Rows.{listed}
 use Rattle.text.specs.Text.{decimal}
-use Rattle.words.specs.Words.{same, numeral}
+use Rattle.words.specs.Words.{same}
 use Rattle.notation.specs.declared.Form.{Form}
 use Rattle.notation.specs.declared.Form.TheVariants.{Decimal, Choice, Parent}
 

@@ -7,4 +7,4 @@ use Rattle.text.proofs.put_number.Goals as goal
 pub returns : goal.returns
 returns c =
     let d = c.decimal-count in
-    rw (decimal_spelled c.args.n d.result d.new.out (omega arith) d.ensures.1.0 d.ensures.1.1) c.put_bytes.ensures
+    rw (decimal_spelled c.args.n d.result d.new.out (omega arith) d.ensures.len d.ensures.digits) c.put_bytes.ensures

@@ -1,0 +1,37 @@
+use mathlib.Core.Path.{sym, ap, ◌∙◌}
+use Prim.Native.Nat.{◌+◌, ◌<◌}
+use native.Mathlib.Omega.{arith}
+use lib.ListN.{length}
+use Rattle.layout.specs.Limits.{limits}
+use Rattle.network.specs.declared.Hop.{Hop}
+use Rattle.rows.specs.Ports.{figure_of}
+use Rattle.sheet.specs.Sheet.{network_on}
+use Rattle.sheet.proofs.WalkLaws.{hop_row_lem}
+use Rattle.figures.proofs.NotedLaws.{NotedTo, noted_start, noted_taken, noted_passed, noted_port}
+use Rattle.figures.proofs.ports.put_figure.Goals as goal
+use Rattle.figures.proofs.ports.put_figure.Goals.{then-hop-p, else-hop-p}
+
+pub loop-h-init : goal.loop-h-init
+loop-h-init c = (omega arith, noted_start _ _ _ _ c.requires.before)
+
+pub loop-h-preserved : goal.loop-h-preserved
+loop-h-preserved c =
+    let sheet = c.args.net.now in
+    let net = network_on sheet in
+    let l = c.loop-h in
+    let row : l.h < length net.hops = omega arith in
+    let on = ap (λ (x : Hop). x.port) (c.hop_row-hop.ensures ∙ hop_row_lem sheet l.h row) in
+    let few : l.h < limits.hops = omega arith in (
+      omega arith,
+      elim c.if-hop-p.branch [
+        | then-hop-p w ↦
+            let here = sym on ∙ w.if-hop-p.true in
+            rw w.figures-is
+            (noted_taken net (figure_of net) c.args.p l.h l.figures l.invariant.1 c.args.figure row few here (c.requires.figure_is l.h row here))
+        | else-hop-p w ↦
+            rw w.figures-is (noted_passed net (figure_of net) c.args.p l.h l.figures l.invariant.1 (λ e. w.if-hop-p.false (on ∙ e)))
+      ],
+    )
+
+pub returns : goal.returns
+returns c = let l = c.loop-h in noted_port _ _ _ l.h l.figures l.invariant.1 (omega arith)

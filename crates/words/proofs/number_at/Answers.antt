@@ -1,0 +1,12 @@
+-- `words::number_at` meets its contract: what the span has past the text's end is in no part of it.
+-- Assumes nothing.
+use Rattle.words.proofs.PlaceLaws.{part_held}
+use Rattle.words.proofs.number_at.Goals as goal
+
+pub returns : goal.returns
+returns c =
+    let a = c.args in
+    let to = c.least-to in
+    let from = c.least-from in
+    let held = part_held a.text.now a.span.from a.span.to from.result to.result to.ensures from.ensures in
+    rw (← held) c.numeral_of.ensures
