@@ -21,10 +21,10 @@ use Rattle.table.specs.Write.{Writes}
 use Rattle.table.specs.Read.{read_answer}
 use Rattle.analysis.specs.declared.Analysed.{Analysed}
 use Rattle.analysis.specs.Analysis.{Analyses}
-use Rattle.analysis.proofs.analyse.Met.{met as analyse-met}
-use Rattle.reader.proofs.check.Met.{met as check-met}
-use Rattle.unpacker.proofs.unpack.Met.{met as unpack-met}
-use Rattle.writer.proofs.write.Met.{met as write-met}
+use Rattle.analysis.proofs.analyse.Met.{met as analyse_met}
+use Rattle.reader.proofs.check.Met.{met as check_met}
+use Rattle.unpacker.proofs.unpack.Met.{met as unpack_met}
+use Rattle.writer.proofs.write.Met.{met as write_met}
 use Rattle.order.specs.Kept.{AnalysePromise, CheckPromise, UnpackPromise, WritePromise, Kept}
 
 -- ---- each promise has at most one proof, as it equates numbers, lists of them and answers
@@ -67,16 +67,16 @@ fact_is 𝓤 P prop m = (λ h. ∥∥₁_elim h prop (λ t. t.0), λ e. (fact_i 
 -- ---- the routines
 pub kept : {M : Type 1} {𝓤 : Ura M} (𝓛 : Logic 𝓤) (𝓜 : Model 𝓤 𝓛.H) (𝓡 : Running 𝓤 𝓛.H 𝓜) → Kept 𝓛 𝓜 𝓡
 kept {𝓤 = 𝓤} 𝓛 𝓜 𝓡 = record {
-  analyse_meets = analyse-met 𝓛 𝓜 𝓡;
+  analyse_meets = analyse_met 𝓤 𝓛 𝓜 𝓡;
   analyse_asks_nothing = λ κs a. (tt, λ m. tt);
   analyse_promises = λ κs a g x ws m. fact_is 𝓤 (AnalysePromise κs a x ws) (analyses_prop a.0.now (length a.1.0.now) x ws.1.0) m;
-  check_meets = check-met 𝓛 𝓜 𝓡;
+  check_meets = check_met 𝓤 𝓛 𝓜 𝓡;
   check_asks_nothing = λ κs a. (tt, λ m. tt);
   check_promises = λ κs a g x ws m. fact_is 𝓤 (CheckPromise κs a x ws) (answer_set x (read_answer a.0.now)) m;
-  unpack_meets = unpack-met 𝓛 𝓜 𝓡;
+  unpack_meets = unpack_met 𝓤 𝓛 𝓜 𝓡;
   unpack_asks_nothing = λ κs a. (tt, λ m. tt);
   unpack_promises = λ κs a g x ws m. fact_is 𝓤 (UnpackPromise κs a x ws) (unpacks_prop _ _ x _) m;
-  write_meets = write-met 𝓛 𝓜 𝓡;
+  write_meets = write_met 𝓤 𝓛 𝓜 𝓡;
   write_asks_nothing = λ κs a. (tt, λ m. tt);
   write_promises = λ κs a g x ws m. fact_is 𝓤 (WritePromise κs a x ws) (writes_prop _ _ x _) m;
 }

@@ -5,7 +5,8 @@
 use Rattle.std.specs.Prelude.{◌↔◌, ◌≡◌, length}
 use seplogic.Ra.Ura.{Ura}
 use prog.Model.{Model}
-use prog.Routine.{Routine}
+use prog.Wired.{Code, Wired}
+use mir.Syntax.{Callee}
 use types.Logic.{Logic}
 use contract.Lifetimes.{Lfts}
 use contract.Running.{Running}
@@ -18,13 +19,13 @@ use Rattle.table.specs.Write.{Writes}
 use Rattle.table.specs.Read.{read_answer}
 use Rattle.analysis.specs.Analysis.{Analyses}
 use Rattle.analysis.specs.contracts.analyse as analyse
-use Rattle.analysis.proofs.analyse.Symbol.{routine as analyse-routine}
+use Rattle.analysis.proofs.analyse.Symbol.{code as analyse_code, name as analyse_name}
 use Rattle.reader.specs.contracts.check as check
-use Rattle.reader.proofs.check.Symbol.{routine as check-routine}
+use Rattle.reader.proofs.check.Symbol.{code as check_code, name as check_name}
 use Rattle.unpacker.specs.contracts.unpack as unpack
-use Rattle.unpacker.proofs.unpack.Symbol.{routine as unpack-routine}
+use Rattle.unpacker.proofs.unpack.Symbol.{code as unpack_code, name as unpack_name}
 use Rattle.writer.specs.contracts.write as write
-use Rattle.writer.proofs.write.Symbol.{routine as write_routine}
+use Rattle.writer.proofs.write.Symbol.{code as write_code, name as write_name}
 
 -- what may be claimed of a call
 abbrev pub Claim : Ended → Type 1
@@ -56,11 +57,12 @@ WritePromise κs a x ws =
     a.0.now a.1.0.now a.1.1.0.now a.1.1.1.0.now a.1.1.1.1.0.now a.1.1.1.1.1.0.now)
     (length a.1.1.1.1.1.1.0.now) x ws.1.1.1.1.1.1.0
 
--- every call of a routine ends, with what its clauses ensure (`Meets` is the toolchain's own word). 𝓤 to 𝓡 are what its logic is over
+-- Every call of a routine ends, with what its clauses ensure, in any program that has the routine's code and that of all that it calls
+-- (`Meets` and `Wired` are the toolchain's own words; 𝓡.env is what a name means in the program). 𝓤 to 𝓡 are what its logic is over
 abbrev pub EndsWith :
     {M : Type 1} {𝓤 : Ura M} (𝓛 : Logic 𝓤) (𝓜 : Model 𝓤 𝓛.H) → Running 𝓤 𝓛.H 𝓜
-    → (T : Ended) → Routine → Clauses 𝓤 T → Type 1
-EndsWith 𝓛 𝓜 𝓡 T routine clauses = Meets 𝓛 T.signature (𝓡.run routine) (closing 𝓛 T clauses)
+    → (T : Ended) → Code → Callee → Clauses 𝓤 T → Type 1
+EndsWith 𝓛 𝓜 𝓡 T code name clauses = Wired 𝓡.env code → Meets 𝓛 T.signature (𝓡.run (𝓡.env name)) (closing 𝓛 T clauses)
 
 -- the clauses require nothing of a caller: for any arguments there is a ghost value with which what they require holds of every resource m
 abbrev pub AsksNothing : {M : Type 1} (𝓤 : Ura M) (T : Ended) → Clauses 𝓤 T → Type 1
@@ -77,15 +79,15 @@ Ensures {M} 𝓤 T clauses promise =
 
 -- over whatever the logic is taken
 pub record Kept {M : Type 1} {𝓤 : Ura M} (𝓛 : Logic 𝓤) (𝓜 : Model 𝓤 𝓛.H) (𝓡 : Running 𝓤 𝓛.H 𝓜) : Type 1 where
-  pub analyse_meets : EndsWith 𝓛 𝓜 𝓡 analyse.ended analyse-routine (analyse.clauses 𝓛 𝓜.mem 𝓡.run)
-  pub analyse_asks_nothing : AsksNothing 𝓤 analyse.ended (analyse.clauses 𝓛 𝓜.mem 𝓡.run)
-  pub analyse_promises : Ensures 𝓤 analyse.ended (analyse.clauses 𝓛 𝓜.mem 𝓡.run) AnalysePromise
-  pub check_meets : EndsWith 𝓛 𝓜 𝓡 check.ended check-routine (check.clauses 𝓛 𝓜.mem 𝓡.run)
-  pub check_asks_nothing : AsksNothing 𝓤 check.ended (check.clauses 𝓛 𝓜.mem 𝓡.run)
-  pub check_promises : Ensures 𝓤 check.ended (check.clauses 𝓛 𝓜.mem 𝓡.run) CheckPromise
-  pub unpack_meets : EndsWith 𝓛 𝓜 𝓡 unpack.ended unpack-routine (unpack.clauses 𝓛 𝓜.mem 𝓡.run)
-  pub unpack_asks_nothing : AsksNothing 𝓤 unpack.ended (unpack.clauses 𝓛 𝓜.mem 𝓡.run)
-  pub unpack_promises : Ensures 𝓤 unpack.ended (unpack.clauses 𝓛 𝓜.mem 𝓡.run) UnpackPromise
-  pub write_meets : EndsWith 𝓛 𝓜 𝓡 write.ended write_routine (write.clauses 𝓛 𝓜.mem 𝓡.run)
-  pub write_asks_nothing : AsksNothing 𝓤 write.ended (write.clauses 𝓛 𝓜.mem 𝓡.run)
-  pub write_promises : Ensures 𝓤 write.ended (write.clauses 𝓛 𝓜.mem 𝓡.run) WritePromise
+  pub analyse_meets : EndsWith 𝓛 𝓜 𝓡 analyse.ended analyse_code analyse_name (analyse.clauses 𝓛 𝓜.mem 𝓡.returns)
+  pub analyse_asks_nothing : AsksNothing 𝓤 analyse.ended (analyse.clauses 𝓛 𝓜.mem 𝓡.returns)
+  pub analyse_promises : Ensures 𝓤 analyse.ended (analyse.clauses 𝓛 𝓜.mem 𝓡.returns) AnalysePromise
+  pub check_meets : EndsWith 𝓛 𝓜 𝓡 check.ended check_code check_name (check.clauses 𝓛 𝓜.mem 𝓡.returns)
+  pub check_asks_nothing : AsksNothing 𝓤 check.ended (check.clauses 𝓛 𝓜.mem 𝓡.returns)
+  pub check_promises : Ensures 𝓤 check.ended (check.clauses 𝓛 𝓜.mem 𝓡.returns) CheckPromise
+  pub unpack_meets : EndsWith 𝓛 𝓜 𝓡 unpack.ended unpack_code unpack_name (unpack.clauses 𝓛 𝓜.mem 𝓡.returns)
+  pub unpack_asks_nothing : AsksNothing 𝓤 unpack.ended (unpack.clauses 𝓛 𝓜.mem 𝓡.returns)
+  pub unpack_promises : Ensures 𝓤 unpack.ended (unpack.clauses 𝓛 𝓜.mem 𝓡.returns) UnpackPromise
+  pub write_meets : EndsWith 𝓛 𝓜 𝓡 write.ended write_code write_name (write.clauses 𝓛 𝓜.mem 𝓡.returns)
+  pub write_asks_nothing : AsksNothing 𝓤 write.ended (write.clauses 𝓛 𝓜.mem 𝓡.returns)
+  pub write_promises : Ensures 𝓤 write.ended (write.clauses 𝓛 𝓜.mem 𝓡.returns) WritePromise
