@@ -50,6 +50,12 @@ long __wrap_write(int file, const void *from, size_t n)
     return (long)n;
 }
 
+/* The toolchain's library has C's write under this name too. */
+long __wrap___write(int file, const void *from, size_t n)
+{
+    return __wrap_write(file, from, n);
+}
+
 static void one(int which, size_t table)
 {
     who = which;

@@ -23,11 +23,11 @@ test_without_rt_the_stamped_program_runs() {
     sentence 'the sources are others'
     git -C house checkout -q -- .
     gives 0 latency t.tbl
-    echo >>house/target/bin/latency
+    echo >>house/crates/latency/out/latency
     gives 3 latency t.tbl
     silent
     sentence 'the program is not the one that was stamped'
-    rm house/target/bin/latency
+    rm house/crates/latency/out/latency
     gives 3 latency t.tbl
     silent
     sentence 'rt is not on the path'
@@ -36,12 +36,36 @@ test_without_rt_the_stamped_program_runs() {
 
 test_proof_that_fails_is_ours() {
     scratch
-    echo 'echo "rt: latency NOT PROVED"; exit 1' >meanwhile
+    echo 'echo "rt: latency NOT PROVED" >&2; exit 1' >meanwhile
     gives 3 latency t.tbl
     silent
     sentence 'rt: latency NOT PROVED'
     sentence 'the proof or the build failed'
-    [ ! -e house/target/building ] || no "the lock is left"
+    [ -z "$(ls house/target | grep building)" ] || no "the lock is left"
+    builds 1
+    rm meanwhile
+    echo 'echo "rt: base NOT PROVED"; exit 1' >below
+    gives 3 latency t.tbl
+    silent
+    sentence 'rt: base NOT PROVED'
+    sentence 'the proof or the build failed'
+    builds 1
+}
+
+# The program is run on the crate's own stdin as it is built, and has to write the crate's own stdout.
+test_program_that_writes_another_answer_is_ours() {
+    scratch
+    printf 'a table\n' >house/crates/latency/stdin
+    cp rows house/crates/latency/stdout
+    echo 'cmp -s crates/latency/stdin /dev/stdin && cat "$here/answer"' >meanwhile
+    echo another >answer
+    gives 3 latency t.tbl
+    silent
+    sentence 'latency writes something else than its file stdout has'
+    [ ! -e house/target/latency.stamp ] || no "there is a stamp"
+    cp rows answer
+    gives 0 latency t.tbl
+    same out rows
 }
 
 test_program_that_fails_is_ours() {
@@ -79,7 +103,7 @@ test_two_runs_at_once_build_once() {
 test_lock_of_a_run_that_is_gone_is_taken() {
     scratch
     mkdir house/target
-    ln -s 99999999 house/target/building
+    echo 99999999 >house/target/building
     gives 0 latency t.tbl
     same out rows
 }

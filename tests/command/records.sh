@@ -33,7 +33,7 @@ table-bytes
 answer
 $(cat "$examples/whole-case.rows")
 answer-sha256 $(sum <"$examples/whole-case.rows")
-$(cat "$root/target/bin/latency.stamp")
+$(cat "$root/target/latency.stamp")
 END
     echo "record-sha256 $(sum <wanted)" >>wanted
     same good wanted

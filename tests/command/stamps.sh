@@ -1,12 +1,13 @@
-# Tests of the stamp: read by ./run. A scratch repository has the command, two small sources and a rt that only pretends to prove: it notes
-# each build in builds, does what the file `meanwhile` says, and puts the file `made` in the program's place. Without a toolchain's loader
-# tools/built runs a program as it is, so that it can be a script.
+# Tests of the stamp: read by ./run. A scratch repository has the command, two small sources and a rt that only pretends to prove: of a library
+# it leaves a copy of its sources in out, as rt does. Of the program it notes each build in builds, does what the file `meanwhile` says, puts
+# the file `made` in the program's place, and runs nothing. Without a toolchain's loader tools/built runs a program as it is, so that it can be a
+# script.
 
 scratch() { # makes ./house with its first commit, and puts the pretending rt on the path
     mkdir -p house/crates/latency/src house/crates/base/specs house/tools house/examples pretend
     cp "$root/avulgjesh" house/
     cp "$root"/tools/* house/tools/
-    printf 'target\n' >house/.gitignore
+    printf 'target\nout\n' >house/.gitignore
     printf 'base:\nlatency: base io libc\n' >house/crates.txt
     printf 'fn main() {}\n' >house/crates/latency/src/main.rt
     printf 'pub mod Lib\n' >house/crates/base/specs/Lib.antt
@@ -19,16 +20,26 @@ scratch() { # makes ./house with its first commit, and puts the pretending rt on
 here='$PWD'
 case \$1 in
 version) cat "\$here/kit" ;;
-doc) echo /nosuch/docs/START-HERE.md ;;
-check)
+doc) echo /nosuch/START-HERE.md ;;
+lib)
+    [ ! -f "\$here/below" ] || . "\$here/below"
+    cat ./*/*.rt ./*/*.antt >"\$here/read" 2>/dev/null
+    ! cmp -s "\$here/read" out/rlib/stamp || exit 0
+    mkdir -p out/rlib/specs out/rlib/src
+    cp "\$here/read" out/rlib/specs/Lib.antt
+    cp "\$here/read" out/rlib/src/lib.rt
+    cp "\$here/read" out/rlib/stamp
+    echo 'logic=proved functions=1'
+    ;;
+run)
     echo build >>"\$here/builds"
-    echo 'rt: base proved (1 s)'
+    cd ../..
     [ ! -f "\$here/meanwhile" ] || . "\$here/meanwhile"
-    mkdir -p target/bin target/stamp
-    [ ! -f target/stamp/latency ] || { echo 'rt: latency proved (unchanged since it was last proved)'; exit 0; }
-    cp "\$here/made" target/bin/latency && chmod +x target/bin/latency && echo fresh >target/stamp/latency
-    echo 'rt: latency proved (1 s)'
-    echo 'rt: ok, 2 crates proved'
+    cd crates/latency
+    mkdir -p out
+    [ ! -f out/latency.stamp ] || { echo 'rt: nothing has changed since the last proved build' >&2; exit 0; }
+    cp "\$here/made" out/latency && chmod +x out/latency && echo fresh >out/latency.stamp
+    echo 'logic=proved functions=1' >&2
     ;;
 esac
 END
@@ -50,7 +61,7 @@ commit() {
 builds() { # N
     [ "$(wc -l <builds)" -eq "$1" ] || no "$(($(wc -l <builds))) builds, not $1${2:+: $2}"
 }
-stamped_with() { has house/target/bin/latency.stamp "$1"; }
+stamped_with() { has house/target/latency.stamp "$1"; }
 stamped_commit() { stamped_with "commit $(git -C house rev-parse HEAD)"; }
 # A path on which every command is but those that are named.
 path_without() {
@@ -68,14 +79,35 @@ test_first_use_builds_stamps_and_says_how_far() {
     scratch
     gives 0 latency t.tbl
     same out rows
-    sentence '^avulgjesh: 1 of 2: base proved'
-    sentence '^avulgjesh: 2 of 2: latency proved'
-    stamped_with "program-sha256 $(sha256sum <house/target/bin/latency | cut -d ' ' -f 1)"
+    sentence '^avulgjesh: 1 of 2: base proved ([0-9]* s)'
+    sentence '^avulgjesh: 2 of 2: latency proved ([0-9]* s)'
+    stamped_with "program-sha256 $(sha256sum <house/crates/latency/out/latency | cut -d ' ' -f 1)"
     stamped_with 'toolchain kit 1'
     stamped_commit
     gives 0 latency t.tbl
     quiet
     builds 1
+    echo 'fn main() { }' >house/crates/latency/src/main.rt
+    gives 0 latency t.tbl
+    sentence '^avulgjesh: 1 of 2: base proved (unchanged since it was last proved)'
+    builds 2
+}
+
+# rt keeps copies of sources in out: they are none.
+test_what_rt_makes_is_no_source() {
+    scratch
+    gives 0 latency t.tbl
+    [ -f house/crates/base/out/rlib/specs/Lib.antt ] || no "nothing was made"
+    echo other >house/crates/base/out/rlib/specs/Lib.antt
+    rm -r house/crates/base/out/rlib/src
+    gives 0 latency t.tbl
+    quiet
+    builds 1
+    stamped_commit
+    mkdir -p house/crates/base/specs/out
+    echo >house/crates/base/specs/out/Own.antt
+    gives 0 latency t.tbl
+    builds 2 'a source in a folder that is called out too'
 }
 
 test_source_saved_during_the_proof_is_not_stamped() {
@@ -84,7 +116,7 @@ test_source_saved_during_the_proof_is_not_stamped() {
     gives 3 latency t.tbl
     silent
     sentence 'the sources changed while they were proved'
-    [ ! -e house/target/bin/latency.stamp ] || no "there is a stamp"
+    [ ! -e house/target/latency.stamp ] || no "there is a stamp"
     rm meanwhile
     commit second
     gives 0 latency t.tbl
@@ -142,23 +174,23 @@ test_toolchain_that_changes_during_the_proof_is_not_stamped() {
     gives 3 latency t.tbl
     silent
     sentence 'the toolchain changed during the proof'
-    [ ! -e house/target/bin/latency.stamp ] || no "there is a stamp"
+    [ ! -e house/target/latency.stamp ] || no "there is a stamp"
 }
 
 test_program_put_in_place_by_hand_is_noticed() {
     scratch
     gives 0 latency t.tbl
-    printf '#!/bin/sh\nprintf "stream hop queue worst best jitter\\n0 0 9 9 9 9\\n"\n' >house/target/bin/latency
+    printf '#!/bin/sh\nprintf "stream hop queue worst best jitter\\n0 0 9 9 9 9\\n"\n' >house/crates/latency/out/latency
     gives 0 latency t.tbl
     same out rows
     builds 2
-    rm house/target/bin/latency
+    rm house/crates/latency/out/latency
     gives 0 latency t.tbl
     builds 3 'no program'
-    rm house/target/bin/latency.stamp
+    rm house/target/latency.stamp
     gives 0 latency t.tbl
     builds 4 'no stamp'
-    echo 'commit mine' >>house/target/bin/latency.stamp
+    echo 'commit mine' >>house/target/latency.stamp
     gives 0 latency t.tbl
     builds 5 'a damaged stamp'
 }
@@ -211,14 +243,14 @@ test_commit_of_another_repository_is_not_named() {
 test_stamp_of_a_built_program() {
     scratch
     noted=$("$front" stamp) || no "status $?"
-    (cd house && rt check) >said
+    (cd house/crates/latency && rt run) >said 2>&1
     gives 0 stamp "$noted"
     gives 0 latency t.tbl
     quiet
     builds 1
     stamped_commit
-    rm house/target/bin/latency.stamp
+    rm house/target/latency.stamp
     echo 'fn main() { }' >house/crates/latency/src/main.rt
     gives 3 stamp "$noted"
-    [ ! -e house/target/bin/latency.stamp ] || no "there is a stamp"
+    [ ! -e house/target/latency.stamp ] || no "there is a stamp"
 }

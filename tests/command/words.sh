@@ -83,10 +83,10 @@ test_version_names_the_rules_and_the_stamp() {
     printf 'tick-ns 80\nrequests M-103\n' >wanted
     same rules wanted
     tail -n 4 out >stamp
-    same stamp "$root/target/bin/latency.stamp"
+    same stamp "$root/target/latency.stamp"
     gives 0 --version
     tail -n 4 out >stamp
-    same stamp "$root/target/bin/latency.stamp"
+    same stamp "$root/target/latency.stamp"
 }
 
 # ---- pack
