@@ -60,7 +60,7 @@ module _ (net : Network) (room : ℕ) where
     -- behind those of `os`, which are not given
     pub judged_refuses : (os : List (Option Answer)) (o : Option Answer) (ps : List (Option Answer)) (a : Answer)
         → first_given (later net room) ≡ first_given (os ++ (o ∷ ps)) → NoneGiven os → o ≡ some a → 0 < a.number → r ≡ a → Judged net room r waits queues hops
-    judged_refuses os o ps a all none_before given Some-number is = record {
+    judged_refuses os o ps a all none_before given some_number is = record {
       answer_is = is ∙ sym (all ∙ first_is os o ps a none_before given);
       computed = λ z. absurd (omega (arith, ap (λ (x : Answer). x.number) is));
     }

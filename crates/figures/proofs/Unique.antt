@@ -3,7 +3,7 @@
 use mathlib.Core.Path.{refl, sym, ◌∙◌}
 use Rattle.base.specs.Settles.{Settles}
 use Rattle.figures.proofs.frames.line.Kinds as line-kinds
-use Rattle.figures.proofs.frames.line.Reads as line_reads_lem
+use Rattle.figures.proofs.frames.line.Reads as line-reads
 use Rattle.figures.proofs.frames.packets.Kinds as packets-kinds
 use Rattle.figures.proofs.frames.packets.Reads as packets-reads
 use Rattle.figures.proofs.frames.less.Kinds as less-kinds
@@ -11,7 +11,7 @@ use Rattle.figures.proofs.frames.less.Reads as less-reads
 use Rattle.figures.proofs.judging.figures.Kinds as figures-kinds
 use Rattle.figures.proofs.judging.figures.Reads as figures-reads
 
-pub line_settles : Settles 0 line-kinds.ps line-kinds.r line_reads_lem.Post
+pub line_settles : Settles 0 line-kinds.ps line-kinds.r line-reads.Post
 line_settles κs a x y ws vs p q = (p ∙ sym q, refl)
 
 pub packets_settles : Settles 0 packets-kinds.ps packets-kinds.r packets-reads.Post

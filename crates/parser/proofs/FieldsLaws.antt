@@ -1,9 +1,8 @@
 -- A line's fields one after the other: what is said of the first k, and what the words from a place on say of the rest.
 -- Assumes nothing.
-use Prim.Native.Nat.{ℕ, zero, suc, ◌≤◌, ◌<◌}
+use Prim.Native.Nat.{ℕ, suc, ◌≤◌, ◌<◌}
 use mathlib.Core.Path.{◌≡◌, refl, sym, ap, ◌∙◌}
 use mathlib.Core.List.{List, [], ◌∷◌}
-use mathlib.Core.Option.{none}
 use native.Mathlib.Omega.{arith}
 use lib.ListN.{length, get_or, take, drop, set, length-set}
 use lib.Seq.{take-suc-set, length-take-le}
@@ -12,8 +11,7 @@ use Rattle.layout.specs.declared.Shape.{Shape}
 use Rattle.words.specs.Words.{words_of}
 use Rattle.words.specs.Places.{part}
 use Rattle.notation.specs.Notation.{Word}
-use Rattle.notation.specs.Meant as meant
-use Rattle.notation.specs.Meant.{numbers, wrong, of, fields_from}
+use Rattle.notation.specs.Meant.{wrong, of, fields_from}
 use Rattle.notation.specs.Steps.{shape_from}
 use Rattle.notation.proofs.MeantLaws.{with_numbers, with_last, with_wrong, with_none, fields_next, fields_stop, fields_end, fields_over}
 use Rattle.fields.specs.declared.Taken.{Taken}

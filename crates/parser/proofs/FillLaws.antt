@@ -1,6 +1,6 @@
 -- A list that is filled line by line: what stands in it, and what the lines that are left put behind that.
 -- Assumes nothing.
-use Prim.Native.Nat.{ℕ, zero, suc, ◌+◌, ◌-◌, ◌≤◌, ◌<◌, min}
+use Prim.Native.Nat.{ℕ, zero, suc, ◌+◌, ◌-◌, ◌≤◌, ◌<◌}
 use mathlib.Core.Path.{◌≡◌, refl, sym, ap, ◌∙◌, subst}
 use mathlib.Core.Bool.{Bool, true, false}
 use mathlib.Core.Logic.{◌⊎◌, inl, inr}
@@ -8,8 +8,8 @@ use mathlib.Core.List.{List, [], ◌∷◌, ◌++◌, append_assoc}
 use native.Mathlib.Omega.{arith}
 use borrow.Author.Tests.{leb-true, leb-false}
 use lib.Dec.{leb, eqb}
-use lib.ListN.{length, get_or, take, drop, replicate, length-take, length-drop, length-replicate, take-append-drop}
-use lib.Seq.{take-nil, drop-drop, length-take-le, paste, length-paste, take-paste, drop-paste}
+use lib.ListN.{length, get_or, take, drop, replicate, length-replicate, take-append-drop}
+use lib.Seq.{drop-drop, length-take-le, paste, length-paste, take-paste, drop-paste}
 use Rattle.base.specs.Pick.{pick}
 use Rattle.words.specs.Words.{words_of}
 use Rattle.words.specs.Places.{part, line_end}

@@ -1,17 +1,17 @@
 -- The first mistake of a text, line by line: one that is found in a line is it, and otherwise it is the first of the lines behind.
 -- Assumes nothing.
-use Prim.Native.Nat.{ℕ, zero, suc, ◌+◌, ◌≤◌, ◌<◌}
+use Prim.Native.Nat.{ℕ, suc, ◌+◌, ◌≤◌, ◌<◌}
 use mathlib.Core.Path.{◌≡◌, refl, sym, ap, ◌∙◌}
-use mathlib.Core.Bool.{Bool, true, false}
-use mathlib.Core.List.{List, [], ◌∷◌}
+use mathlib.Core.Bool.{true, false}
+use mathlib.Core.List.{List, ◌∷◌}
 use native.Mathlib.Omega.{arith}
 use native.Mathlib.Numerals.{add-one}
 use borrow.Author.Tests.{le-ltb, eq-eqb, ne_eqb}
-use lib.Dec.{ltb, eqb}
-use lib.ListN.{length, get_or, set, get_or-eq_default}
+use lib.Dec.{ltb}
+use lib.ListN.{length, get_or, get_or-eq_default}
 use Rattle.base.specs.Pick.{pick}
 use Rattle.words.specs.Words.{words_of}
-use Rattle.words.specs.Places.{part, line_end, word_at}
+use Rattle.words.specs.Places.{part, line_end}
 use Rattle.notation.specs.Notation.{Word}
 use Rattle.notation.specs.Meant as meant
 use Rattle.notation.specs.Meant.{line_said}
@@ -19,7 +19,6 @@ use Rattle.notation.specs.Steps.{lines_from}
 use Rattle.notation.proofs.LinesLaws.{lines_next, lines_done}
 use Rattle.parser.specs.declared.lines.Sort.{Sort}
 use Rattle.parser.specs.declared.lines.Sort.TheVariants.{Silent, Unknown, Good, Wrong}
-use Rattle.parser.specs.declared.mistakes.Fault.{Fault}
 use Rattle.parser.specs.declared.mistakes.Fault.TheVariants.{Nothing, NoDelays}
 use Rattle.parser.specs.declared.mistakes.Mistake.{Mistake}
 use Rattle.parser.specs.declared.lines.Line.{Line}

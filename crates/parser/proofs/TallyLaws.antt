@@ -1,14 +1,14 @@
 -- Where a text has no mistake, each section has as many numbers as its lines have fields, and no more lines than it may have; and there is
 -- one of delays.
 -- Assumes nothing.
-use Prim.Native.Nat.{ℕ, zero, suc, ◌+◌, ◌*◌, ◌≤◌, ◌<◌}
+use Prim.Native.Nat.{ℕ, suc, ◌+◌, ◌*◌, ◌≤◌, ◌<◌}
 use mathlib.Core.Path.{◌≡◌, refl, sym, ap, ◌∙◌}
 use mathlib.Core.Bool.{Bool, true, false, false≢true}
-use mathlib.Core.List.{List, [], ◌∷◌, ◌++◌}
+use mathlib.Core.List.{List, [], ◌∷◌}
 use native.Mathlib.Omega.{arith}
 use native.Mathlib.Decide.{dec_lt}
 use native.Mathlib.Nat.{zero-mul, mul-le-mul_right}
-use borrow.Author.Tests.{ltb-true, eqb-true, eqb-false, eq-eqb}
+use borrow.Author.Tests.{ltb-true, eqb-true, eqb-false}
 use lib.Dec.{ltb, eqb}
 use lib.ListN.{length, get_or, set, replicate, get_or-replicate, length-set, length-append, get_or-eq_default}
 use lib.Seq.{get_or-set_same, get_or-set_other}
@@ -19,8 +19,7 @@ use Rattle.notation.specs.Meant as meant
 use Rattle.notation.specs.Meant.{numbers, wrong, silent, unknown, of, line_said, text_lines, numbers_of, section_in}
 use Rattle.notation.specs.Steps.{fields_of}
 use Rattle.notation.proofs.LinesLaws.{WholeLine, whole_line, section_none, section_next}
-use Rattle.parser.specs.declared.mistakes.Fault.{Fault}
-use Rattle.parser.specs.declared.mistakes.Fault.TheVariants.{Nothing, Unknown, NotSaid, Over, TooMany, NoDelays}
+use Rattle.parser.specs.declared.mistakes.Fault.TheVariants.{Nothing, NotSaid, Over, TooMany, NoDelays}
 use Rattle.parser.specs.declared.mistakes.Mistake.{Mistake}
 use Rattle.parser.specs.Mistakes.{line_fault, counted, is_fault, line_start, made_at, mistake_at, of_no_line, mistake_from, mistake_in, SectionsFit, DelaysSaid}
 

@@ -3,8 +3,7 @@
 use Rattle.std.specs.Prelude.{ℕ, zero, suc, ◌+◌, ◌-◌, ◌*◌, ◌≤◌, ◌≡◌, Bool, true, false, List, [], ◌∷◌, ltb, eqb, length, get_or, set, replicate}
 use Rattle.base.specs.Pick.{pick}
 use Rattle.words.specs.declared.Span.{Span}
-use Rattle.words.specs.Words.{words_of}
-use Rattle.words.specs.Places.{part, line_end, word_at}
+use Rattle.words.specs.Places.{line_end, word_at}
 use Rattle.notation.specs.Notation.{Word}
 use Rattle.notation.specs.Meant as meant
 use Rattle.notation.specs.Meant.{numbers, wrong, silent, unknown, of, line_said, text_lines, section_in}

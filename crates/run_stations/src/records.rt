@@ -1,5 +1,5 @@
 // The other door of the station: the flows of a list of numbers as records, of which the first n are lent as a slice.
-// The function that lends them is proved by hand, as every one that lends records, so it does nothing else.
+// The function that lends them does nothing else.
 ghost use Rattle.std.specs.Prelude.{◌≡◌, ◌≤◌, take};
 ghost use Rattle.station.specs.Offered.{station_says};
 ghost use Rattle.station.specs.Answer.{said};

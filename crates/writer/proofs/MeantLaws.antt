@@ -5,7 +5,7 @@ use mathlib.Core.List.{List}
 use Prim.Native.Nat.{ℕ, ◌+◌, ◌-◌, ◌*◌, ◌/◌, ◌≤◌, ◌<◌}
 use native.Mathlib.Nat.{le_refl, le-div_iff_mul-le, div-mul-le_self, mul-le-mul}
 use native.Mathlib.Omega.{arith}
-use lib.ListN.{length, get_or, take, drop, length-drop}
+use lib.ListN.{length, get_or, drop, length-drop}
 use lib.Seq.{length-take-le, get_or-take, get_or-drop}
 use Rattle.layout.specs.Layout.{layout, kind_of, size}
 use Rattle.layout.specs.Promises.{wide}

@@ -124,7 +124,7 @@ pub fn write(
     hops: &[u64],
     out: &mut [u8],
 ) -> Written
-    ensures { Writes (record { header = header.entry.now; systems = systems.now; vls = vls.now; streams = streams.now; ports = ports.now; hops = hops.now }) (length out.old) result out.new }
+    ensures { Writes (record { header = header.now; systems = systems.now; vls = vls.now; streams = streams.now; ports = ports.now; hops = hops.now }) (length out.old) result out.new }
 {
     clear(out);
     let answer = refusal(header, systems, vls, streams, ports, hops, out.len());

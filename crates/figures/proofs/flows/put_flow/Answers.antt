@@ -1,20 +1,9 @@
 -- `figures::flows::put_flow` meets its contract: three numbers, put behind those of the first i flows.
 -- Assumes nothing.
-use native.Mathlib.Omega.{arith}
-use lib.ListN.{length-set}
-use Rattle.station.proofs.FlatLaws.{length_with_flow, flows_in_with_flow}
+use Rattle.station.proofs.FlatLaws.{flows_in_with_flow}
 use Rattle.figures.proofs.flows.put_flow.Goals as goal
 
 pub returns : goal.returns
 returns c =
     let a = c.args in
     flows_in_with_flow a.flows.now a.i a.f c.requires
-
-pub bounds-flows-i-2 : goal.bounds-flows-i-2
-bounds-flows-i-2 c = simp length-set (omega (arith, c.requires))
-
-pub bounds-flows-i-3 : goal.bounds-flows-i-3
-bounds-flows-i-3 c = simp length-set (omega (arith, c.requires))
-
-pub shape_of-flows : goal.shape_of-flows
-shape_of-flows c = length_with_flow c.args.flows.now c.args.i c.args.f

@@ -10,14 +10,10 @@ use Rattle.figures.specs.Figures.{waits_of}
 use Rattle.figures.specs.Computing.{noted}
 use Rattle.figures.proofs.FillLaws.{noted_none, noted_more}
 use Rattle.figures.proofs.LinkLaws.{mux_wait_is}
-use Rattle.figures.proofs.RangeLaws.{vl_system}
 use Rattle.figures.proofs.links.mux_waits.Goals as goal
 
 pub loop-v-init : goal.loop-v-init
 loop-v-init c = (omega arith, c.requires.1 ∙ noted_none _ limits.vls)
-
-pub sum_without-requires : goal.sum_without-requires
-sum_without-requires c = let good = c.requires.0 in (good, vl_system good c.vl_at-vl.ensures (omega arith))
 
 pub loop-v-preserved : goal.loop-v-preserved
 loop-v-preserved c =

@@ -1,28 +1,15 @@
-use Prim.Native.Nat.{suc}
-use mathlib.Core.Path.{◌≡◌, sym, ap, ◌∙◌}
+use mathlib.Core.Path.{sym, ap, ◌∙◌}
 use native.Mathlib.Numerals.{add-one}
 use native.Mathlib.Omega.{arith}
-use lib.ListN.{length}
 use Rattle.network.specs.declared.Vl.{Vl}
 use Rattle.sheet.specs.Sheet.{network_on}
-use Rattle.figures.specs.Computing.{sum_without}
 use Rattle.figures.proofs.BoundLaws.{sum_without_bound}
 use Rattle.figures.proofs.LinkLaws.{sum_without_none, sum_without_more, sum_without_itself, sum_without_stranger, sent_by}
-use Rattle.figures.proofs.RangeLaws.{vl_range, system_range}
 use Rattle.figures.proofs.links.sum_without.Goals as goal
 use Rattle.figures.proofs.links.sum_without.Goals.{then-vl-e+then-v-but, then-vl-e+else-v-but, else-vl-e}
 
 pub loop-v-init : goal.loop-v-init
 loop-v-init c = (omega arith, sym (sum_without_none _ _ _))
-
-pub frame_most-sum-requires : goal.frame_most-sum-requires
-frame_most-sum-requires c =
-    let bounds = system_range c.requires.0 c.system_at-system.ensures c.requires.1 in
-    record {
-      vl_range = vl_range c.requires.0 c.vl_at-vl.ensures (omega arith);
-      per_byte_least = bounds.0;
-      per_byte_greatest = bounds.1;
-    }
 
 pub overflow_add-sum : goal.overflow_add-sum
 overflow_add-sum c =
@@ -51,10 +38,3 @@ loop-v-preserved c =
             | else-vl-e w ↦ omega (arith, w.sum-is, l.invariant.1, sum_without_stranger net e but l.v (λ same. w.if-vl-e.false (system ∙ same)))
           ]),
     )
-
-pub returns : goal.returns
-returns c =
-    let l = c.loop-v in
-    let net = network_on c.args.net.now in
-    let all : l.v ≡ length net.vls = omega arith in
-    rw (← all) l.invariant.1

@@ -8,12 +8,6 @@ use Rattle.figures.proofs.ports.all_ports.Goals as goal
 pub loop-p-init : goal.loop-p-init
 loop-p-init c = ports_none _ _ _ c.requires.no_figures refl
 
-pub port_flows-count-requires : goal.port_flows-count-requires
-port_flows-count-requires c =
-    let p = c.requires in
-    let l = c.loop-p in
-    record { good = p.good; row = omega arith; waits_are = p.waits_are; figures_are = l.invariant.figures_are; jitters_are = l.invariant.jitters_are }
-
 pub served-o-requires : goal.served-o-requires
 served-o-requires c =
     let good = c.requires.good in

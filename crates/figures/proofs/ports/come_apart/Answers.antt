@@ -8,7 +8,6 @@ use native.Mathlib.Omega.{arith}
 use lib.ListN.{length, get_or}
 use Rattle.frame.specs.Frame.{largest_line}
 use Rattle.frame.proofs.FrameLaws.{least_line_is}
-use Rattle.layout.specs.Limits.{limits}
 use Rattle.network.specs.declared.EndSystem.{EndSystem}
 use Rattle.network.specs.declared.Vl.{Vl}
 use Rattle.network.specs.declared.Hop.{Hop}
@@ -19,7 +18,7 @@ use Rattle.figures.specs.Computing.{HopAsked}
 use Rattle.figures.proofs.BoundLaws.{spread_of_vl, wait_noted, hop_figure_bound, jitter_bound}
 use Rattle.figures.proofs.LinkLaws.{sent_by, least_sent_by}
 use Rattle.figures.proofs.HopLaws.{Above, root_apart, left_apart_is, child_apart, above_noted}
-use Rattle.figures.proofs.RangeLaws.{hop_names, port_range, vl_on_link, parent_read}
+use Rattle.figures.proofs.RangeLaws.{hop_names, parent_read}
 use Rattle.figures.proofs.ports.come_apart.Goals as goal
 
 module _ (sheet waits figures jitters : List ℕ) (h : ℕ) (hop : Hop) (asked : HopAsked sheet waits figures jitters h hop) where
@@ -47,9 +46,6 @@ module _ (sheet waits figures jitters : List ℕ) (h : ℕ) (hop : Hop) (asked :
     above : Above (network_on sheet) g figures jitters
     above = above_noted sheet waits figures jitters h g hop asked child
 
-    above_row : g < limits.hops
-    above_row = omega (arith, above.row, asked.known.good.ranges.few_hops)
-
     apart : (line r : ℕ) → r ≡ get_or figures g 0 - line → get_or jitters g 0 + r ≤ 1225000000
     apart line r less =
         let good = asked.known.good in
@@ -61,20 +57,6 @@ module _ (sheet waits figures jitters : List ℕ) (h : ℕ) (hop : Hop) (asked :
           jitter_bound (network_on sheet) good.ranges good.references g above.row,
           hop_figure_bound (network_on sheet) good.ranges good.references g above.row,
         )
-
-pub offset_bounds-waits-v : goal.offset_bounds-waits-v
-offset_bounds-waits-v c = omega (arith, vl_there _ _ _ _ _ _ c.requires, c.requires.known.good.ranges.few_vls)
-
-pub bounds-waits-v : goal.bounds-waits-v
-bounds-waits-v c = omega (arith, vl_there _ _ _ _ _ _ c.requires, c.requires.known.good.ranges.few_vls)
-
-pub frame_most-requires : goal.frame_most-requires
-frame_most-requires c =
-    vl_on_link c.requires.known.good c.vl_at-vl.ensures (vl_there _ _ _ _ _ _ c.requires) c.system_at-system.ensures
-
-pub overflow_mul-result : goal.overflow_mul-result
-overflow_mul-result c =
-    omega (arith, vl_on_link c.requires.known.good c.vl_at-vl.ensures (vl_there _ _ _ _ _ _ c.requires) c.system_at-system.ensures)
 
 pub overflow_sub-result : goal.overflow_sub-result
 overflow_sub-result c =
@@ -92,33 +74,6 @@ returns-in_default c =
     let known = sent _ _ _ _ _ _ p _ _ _ c.vl_at-vl.ensures c.system_at-system.ensures c.frame_most.ensures.0 in
     let root = parent_read net c.args.h p.is c.in_default.is in
     (root_apart net p.known.good.references c.args.h p.there _ p.is _ root known.1, omega (arith, known.2, c.frame_most.ensures.1))
-
-pub offset_bounds-jitters-g : goal.offset_bounds-jitters-g
-offset_bounds-jitters-g c =
-    let child = parent_read (network_on c.args.net.now) c.args.h c.requires.is c.in-After.is in
-    omega (arith, above_row _ _ _ _ _ _ c.requires _ child)
-
-pub bounds-jitters-g : goal.bounds-jitters-g
-bounds-jitters-g c =
-    let child = parent_read (network_on c.args.net.now) c.args.h c.requires.is c.in-After.is in
-    omega (arith, above_row _ _ _ _ _ _ c.requires _ child)
-
-pub offset_bounds-figures-g : goal.offset_bounds-figures-g
-offset_bounds-figures-g c =
-    let child = parent_read (network_on c.args.net.now) c.args.h c.requires.is c.in-After.is in
-    omega (arith, above_row _ _ _ _ _ _ c.requires _ child)
-
-pub bounds-figures-g : goal.bounds-figures-g
-bounds-figures-g c =
-    let child = parent_read (network_on c.args.net.now) c.args.h c.requires.is c.in-After.is in
-    omega (arith, above_row _ _ _ _ _ _ c.requires _ child)
-
-pub overflow_mul-port : goal.overflow_mul-port
-overflow_mul-port c =
-    let good = c.requires.known.good in
-    let child = parent_read (network_on c.args.net.now) c.args.h c.requires.is c.in-After.is in
-    let known = above _ _ _ _ _ _ c.requires _ child in
-    omega (arith, port_range good c.port_at-port.ensures (hop_names good c.hop_at-above.ensures known.row).1)
 
 pub overflow_add-result-2 : goal.overflow_add-result-2
 overflow_add-result-2 c =

@@ -2,19 +2,7 @@
 -- Assumes nothing.
 use Rattle.sheet.specs.Sheet.{network_on}
 use Rattle.figures.proofs.HopLaws.{hop_flow_is}
-use Rattle.figures.proofs.RangeLaws.{hop_names, port_range, vl_on_port}
 use Rattle.figures.proofs.ports.hop_flow.Goals as goal
-
-pub spread-requires : goal.spread-requires
-spread-requires c =
-    let p = c.requires in
-    port_range p.0.known.good p.1 p.0.known.row
-
-pub frame_most-requires : goal.frame_most-requires
-frame_most-requires c =
-    let p = c.requires in
-    let good = p.0.known.good in
-    vl_on_port good c.vl_at-vl.ensures (hop_names good p.0.is p.0.there).0 p.1 p.0.known.row
 
 pub returns : goal.returns
 returns c =

@@ -44,7 +44,6 @@ put_flow-count-requires c =
     let hop = ap (λ (x : Hop). x.port) (hop_walked good c.hop_row-hop.ensures row) in
     omega (
       arith,
-      c.put_flow-arg-1.given,
       gathering_room _ _ _ _ _ _ l.invariant good.ranges.few_hops row good.ranges
           good.references (sym hop ∙ c.if-hop-p.true),
     )

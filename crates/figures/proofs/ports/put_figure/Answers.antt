@@ -1,5 +1,5 @@
 use mathlib.Core.Path.{sym, ap, ◌∙◌}
-use Prim.Native.Nat.{◌+◌, ◌<◌}
+use Prim.Native.Nat.{◌<◌}
 use native.Mathlib.Omega.{arith}
 use lib.ListN.{length}
 use Rattle.layout.specs.Limits.{limits}
@@ -7,12 +7,9 @@ use Rattle.network.specs.declared.Hop.{Hop}
 use Rattle.rows.specs.Ports.{figure_of}
 use Rattle.sheet.specs.Sheet.{network_on}
 use Rattle.sheet.proofs.WalkLaws.{hop_row_lem}
-use Rattle.figures.proofs.NotedLaws.{NotedTo, noted_start, noted_taken, noted_passed, noted_port}
+use Rattle.figures.proofs.NotedLaws.{noted_taken, noted_passed}
 use Rattle.figures.proofs.ports.put_figure.Goals as goal
 use Rattle.figures.proofs.ports.put_figure.Goals.{then-hop-p, else-hop-p}
-
-pub loop-h-init : goal.loop-h-init
-loop-h-init c = (omega arith, noted_start _ _ _ _ c.requires.before)
 
 pub loop-h-preserved : goal.loop-h-preserved
 loop-h-preserved c =
@@ -32,6 +29,3 @@ loop-h-preserved c =
             rw w.figures-is (noted_passed net (figure_of net) c.args.p l.h l.figures l.invariant.1 (λ e. w.if-hop-p.false (on ∙ e)))
       ],
     )
-
-pub returns : goal.returns
-returns c = let l = c.loop-h in noted_port _ _ _ l.h l.figures l.invariant.1 (omega arith)

@@ -11,13 +11,6 @@ use Rattle.figures.proofs.queues.all_queues.Goals.{then-k-vl+else-endless, else-
 pub loop-i-init : goal.loop-i-init
 loop-i-init c = queues_none _ _ c.requires.no_queues
 
-pub queue-o-requires : goal.queue-o-requires
-queue-o-requires c = record {
-  good = c.requires.good;
-  row = omega arith;
-  is = c.vl_at-vl.ensures;
-}
-
 pub returns-then-endless : goal.returns-then-endless
 returns-then-endless c =
     let good = c.requires.good in

@@ -33,7 +33,6 @@ put_flow-count-requires c =
     let stream = stream_walked good c.stream_row-stream.ensures row in
     omega (
       arith,
-      c.put_flow-arg-1.given,
       sub_link_room _ _ _ _ _ stream good.ranges good.references row
           c.if-stream-v.true c.if-stream-k.true _ _ l.invariant.1,
     )
