@@ -31,7 +31,7 @@ fn write_first(
     requires { (get_or lengths 0 0 ≤ length header.now) × (get_or lengths 1 0 ≤ length systems.now) × (get_or lengths 2 0 ≤ length vls.now)
         × (get_or lengths 3 0 ≤ length streams.now) × (get_or lengths 4 0 ≤ length ports.now) × (get_or lengths 5 0 ≤ length hops.now) }
     ensures { Writes (record {
-      header = take (get_or lengths 0 0) header.entry.now;
+      header = take (get_or lengths 0 0) header.now;
       systems = take (get_or lengths 1 0) systems.now;
       vls = take (get_or lengths 2 0) vls.now;
       streams = take (get_or lengths 3 0) streams.now;
