@@ -2,7 +2,14 @@
 -- Assumes nothing.
 use Rattle.sheet.specs.Sheet.{network_on}
 use Rattle.figures.proofs.HopLaws.{hop_flow_is}
+use Rattle.figures.proofs.RangeLaws.{hop_names, vl_on_port}
 use Rattle.figures.proofs.ports.hop_flow.Goals as goal
+
+pub frame_most-requires : goal.frame_most-requires
+frame_most-requires c =
+    let p = c.requires in
+    let good = p.0.known.good in
+    vl_on_port good c.vl_at-vl.ensures (hop_names good p.0.is p.0.there).0 p.1 p.0.known.row
 
 pub returns : goal.returns
 returns c =

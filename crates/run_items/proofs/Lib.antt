@@ -1,2 +1,0 @@
--- The law file of the proofs. Assumes nothing.
-pub mod CountLaws
