@@ -2,7 +2,7 @@
 // Numbers come from the layout that the reader goes by; only the words stand here. The lines are compared with stdout, and TABLE.md with those.
 #![tactic(auto)]
 
-mod words;
+mod wording;
 
 use layout::sizes::{KINDS, LONGEST, MOST_ROWS};
 use layout::{Kind, Shape, Way};
@@ -104,7 +104,7 @@ fn unit(kind: usize, k: usize, s: Shape) {
         }
         _ => {
             let n = s.name;
-            words::unit(n);
+            wording::unit(n);
         }
     }
 }
@@ -116,7 +116,7 @@ fn field(kind: usize, k: usize) {
     text(b"| ");
     number(k as u64);
     text(b" | ");
-    words::name(called);
+    wording::name(called);
     text(b" | ");
     number(s.width as u64);
     text(b" | ");
@@ -133,9 +133,9 @@ fn pair(kind: usize, k: usize, test: usize) {
     text(b"| ");
     number(test as u64);
     text(b" | ");
-    words::name(lesser);
+    wording::name(lesser);
     text(b" is at most ");
-    words::name(greater);
+    wording::name(greater);
     text(b" | | | |\n");
 }
 
@@ -172,7 +172,7 @@ fn heading(section: usize, kind: usize) {
     text(b"### Section ");
     number(section as u64);
     text(b", ");
-    words::section(section);
+    wording::section(section);
     text(b": ");
     bytes(layout::bytes_in(kind));
     text(b", ");
