@@ -7,7 +7,6 @@ use mathlib.Core.Option.{Option, some}
 use mathlib.Core.Path.{◌≡◌, refl, ap, ◌∙◌}
 use native.Mathlib.Omega.{arith}
 use lib.Dec.{leb, leb→le}
-use lib.ListN.{length}
 use Rattle.base.specs.Least.{least_from}
 use Rattle.base.specs.Tabulate.{passing, total}
 use Rattle.base.specs.Tests.{is_some, number_or0, first_failing}

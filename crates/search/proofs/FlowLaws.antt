@@ -1,6 +1,6 @@
 -- Laws of one flow: what it brings grows with the span, stands still from its last arrival on, and within the limit is at most 170,000 messages.
 -- Assumes nothing.
-use Prim.Native.Nat.{ℕ, ◌+◌, ◌*◌, ◌-◌, ◌/◌, ◌≤◌, ◌<◌}
+use Prim.Native.Nat.{ℕ, ◌+◌, ◌*◌, ◌/◌, ◌≤◌, ◌<◌}
 use mathlib.Core.Bool.{Bool, true, false, ◌&&◌, false≢true}
 use mathlib.Core.Path.{◌≡◌, refl}
 use native.Mathlib.Nat.{div-mul-le_self, le-div_iff_mul-le, mul-le-mul, div-lt_iff_lt-mul}

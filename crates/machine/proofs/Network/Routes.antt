@@ -1,6 +1,6 @@
 -- From 01's figures to the windows that the lemmas use: the jitter of a hop is the spread of its window, and the rows' worst and best are the windows' ends. By induction along the route.
 -- Assumes nothing.
-use Prim.Native.Nat.{ℕ, zero, suc, ◌+◌, ◌-◌, ◌<◌}
+use Prim.Native.Nat.{ℕ, zero, suc, ◌+◌, ◌<◌}
 use mathlib.Core.Bool.{Bool, true, false, cond, not, ◌&&◌}
 use mathlib.Core.Option.{Option, none, some}
 use mathlib.Core.Path.{◌≡◌, refl, ap, ◌∙◌}

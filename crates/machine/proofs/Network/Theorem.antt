@@ -12,7 +12,7 @@ use Rattle.frame.specs.Packets.{packets}
 use Rattle.network.specs.Network.{Network, vl_at, stream_at, hop_at}
 use Rattle.rows.specs.Rows.{queue_of}
 use Rattle.machine.specs.Messages.{Message, Packet, Frame, vl_of, packets_in, framed}
-use Rattle.machine.specs.Machine.{Run, released}
+use Rattle.machine.specs.Machine.{Run}
 use Rattle.machine.specs.Permitted.{Permitted}
 use Rattle.machine.specs.Sound.{Sound}
 use Rattle.machine.specs.Runs.{Complete, Hands, Waited}

@@ -5,7 +5,7 @@ use mathlib.Core.Bool.{Bool, true, false, not, cond}
 use mathlib.Core.List.{List, [], ◌∷◌, ◌++◌, Memᴰ}
 use mathlib.Core.List.Permᴰ
 use mathlib.Core.List.{Permᴰ}
-use mathlib.Core.Logic.{◌⊎◌, ⊎_elim}
+use mathlib.Core.Logic.{⊎_elim}
 use mathlib.Core.Path.{◌≡◌, refl, sym, ap, subst, subst₂, fun_ext}
 use native.Mathlib.Nat.{le_of_eq, le_trans}
 use native.Mathlib.Omega.{arith}
