@@ -5,3 +5,4 @@ pub mod JoinLaws
 pub mod KnownLaws
 pub mod GivenLaws
 pub mod Unique
+pub mod Wiring

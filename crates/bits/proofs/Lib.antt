@@ -11,3 +11,4 @@ pub mod RowLaws
 pub mod TableLaws
 pub mod PartLaws
 pub mod StepLaws
+pub mod Wiring

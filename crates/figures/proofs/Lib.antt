@@ -15,3 +15,4 @@ pub mod CountLaws
 pub mod JudgeLaws
 pub mod KnownLaws
 pub mod Unique
+pub mod Wiring

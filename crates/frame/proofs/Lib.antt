@@ -4,3 +4,4 @@ pub mod FrameLaws
 pub mod PacketLaws
 pub mod GapLaws
 pub mod Unique
+pub mod Wiring

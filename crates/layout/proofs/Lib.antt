@@ -12,3 +12,4 @@ pub mod Unique
 pub mod ReadLaws
 pub mod WideLaws
 pub mod ToldLaws
+pub mod Wiring

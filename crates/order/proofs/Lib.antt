@@ -9,3 +9,4 @@ pub mod Demand2
 pub mod Demand3
 pub mod Whole
 pub mod Kept
+pub mod There

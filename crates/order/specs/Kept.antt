@@ -58,7 +58,8 @@ WritePromise κs a x ws =
     (length a.1.1.1.1.1.1.0.now) x ws.1.1.1.1.1.1.0
 
 -- Every call of a routine ends, with what its clauses ensure, in any program that has the routine's code and that of all that it calls
--- (`Meets` and `Wired` are the toolchain's own words; 𝓡.env is what a name means in the program). 𝓤 to 𝓡 are what its logic is over
+-- (`Meets` and `Wired` are the toolchain's own words; 𝓡.env is what a name means in the program; specs/There shows such a program).
+-- 𝓤 to 𝓡 are what its logic is over
 abbrev pub EndsWith :
     {M : Type 1} {𝓤 : Ura M} (𝓛 : Logic 𝓤) (𝓜 : Model 𝓤 𝓛.H) → Running 𝓤 𝓛.H 𝓜
     → (T : Ended) → Code → Callee → Clauses 𝓤 T → Type 1

@@ -3,3 +3,4 @@ pub mod HopLaws
 pub mod AnsweringLaws
 pub mod FillLaws
 pub mod Unique
+pub mod Wiring

@@ -6,3 +6,4 @@ pub mod PassLaws
 pub mod TurnIs
 pub mod TurnLaws
 pub mod Unique
+pub mod Wiring

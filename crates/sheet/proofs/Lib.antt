@@ -3,3 +3,4 @@ pub mod BlockLaws
 pub mod WalkLaws
 pub mod LeafLaws
 pub mod Unique
+pub mod Wiring

@@ -4,3 +4,4 @@ pub mod ExamineLaws
 pub mod JudgeLaws
 pub mod Unique
 pub mod SectionParts
+pub mod Wiring

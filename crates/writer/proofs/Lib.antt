@@ -7,3 +7,4 @@ pub mod HeaderRow
 pub mod StageLaws
 pub mod WrittenLaws
 pub mod Unique
+pub mod Wiring
