@@ -1,4 +1,4 @@
--- `search::pass::in_range` meets its contract: at each return the tests that led there decide `inRange`.
+-- `search::pass::in_range` meets its contract: at each return the tests that led there decide `in_range`.
 -- Assumes nothing.
 use Rattle.search.proofs.FlowLaws.{short_period, long_period, long_jitter, no_cost, all_but_cost}
 use Rattle.search.proofs.pass.in_range.Goals as goal
