@@ -3,8 +3,9 @@
 use Prim.Native.Nat.{ℕ, ◌*◌, ◌≤◌, ◌<◌}
 use mathlib.Core.Bool.{true}
 use mathlib.Core.List.{List, [], ◌∷◌, ◌++◌}
-use mathlib.Core.Option.{Option, none, some, some-ne-none}
-use mathlib.Core.Path.{◌≡◌, refl, ap}
+use Rattle.std.specs.Prelude.{Option, None, Some}
+use Rattle.std.proofs.lemmas.Option.{none-some}
+use mathlib.Core.Path.{◌≡◌, refl, ap, sym}
 use native.Mathlib.Omega.{arith}
 use borrow.Author.Tests.{eq-eqb, ltb-false}
 use lib.ListN.{length}
@@ -22,13 +23,13 @@ use Rattle.answers.specs.Analysis.{refused_at, answer7, answer8, answer9, answer
 -- ---- a refusal at a row
 refused_at_refuses : (n s : ℕ) (o : Option ℕ) → 0 < n → Refuses (refused_at n s o)
 unfolding refused_at
-refused_at_refuses n s none h = tt
-refused_at_refuses n s (some i) h = h
+refused_at_refuses n s None h = tt
+refused_at_refuses n s (Some i) h = h
 
-refused_nowhere : (n s : ℕ) (o : Option ℕ) → refused_at n s o ≡ none → o ≡ none
+refused_nowhere : (n s : ℕ) (o : Option ℕ) → refused_at n s o ≡ None → o ≡ None
 unfolding refused_at
-refused_nowhere n s none e = refl
-refused_nowhere n s (some i) e = absurd (some-ne-none (answer n s i 0) e)
+refused_nowhere n s None e = refl
+refused_nowhere n s (Some i) e = absurd (none-some (answer n s i 0) (sym e))
 
 -- ---- 7 to 10, behind the reader's
 abbrev pub later : Network → ℕ → List (Option Answer)
@@ -37,10 +38,10 @@ later net room = answer7 net ∷ answer8 net room ∷ answer9 net ∷ answer10 n
 later_refuse : (net : Network) (room : ℕ) → Refuse (later net room)
 unfolding answer7 answer8 answer9 answer10
 later_refuse net room =
-    let short = (pick_refuses (too_short net room) (answer 8 0 0 1) none (omega arith) tt).0 in (
+    let short = (pick_refuses (too_short net room) (answer 8 0 0 1) None (omega arith) tt).0 in (
       refused_at_refuses 7 1 (late_system net) (omega arith),
       (
-        (pick_refuses (too_many_rows net) (answer 8 0 0 0) (pick (too_short net room) (some (answer 8 0 0 1)) none) (omega arith) short).0,
+        (pick_refuses (too_many_rows net) (answer 8 0 0 0) (pick (too_short net room) (Some (answer 8 0 0 1)) None) (omega arith) short).0,
         (refused_at_refuses 9 2 (endless_vl net) (omega arith), (refused_at_refuses 10 4 (endless_port net) (omega arith), tt)),
       ),
     )
@@ -48,10 +49,10 @@ later_refuse net room =
 -- ---- what acceptance says
 pub record Accepts (bytes : List ℕ) (room : ℕ) : Type 0 where
   pub reads : read_answer bytes ≡ accepted
-  pub no_late_system : late_system (network_in bytes) ≡ none
+  pub no_late_system : late_system (network_in bytes) ≡ None
   pub rows_fit : 6 * length (rows_of (network_in bytes)) ≤ room
-  pub no_endless_vl : endless_vl (network_in bytes) ≡ none
-  pub no_endless_port : endless_port (network_in bytes) ≡ none
+  pub no_endless_vl : endless_vl (network_in bytes) ≡ None
+  pub no_endless_port : endless_port (network_in bytes) ≡ None
 
 module _ (bytes : List ℕ) (room : ℕ) where
   abbrev net : Network
@@ -68,11 +69,11 @@ module _ (bytes : List ℕ) (room : ℕ) where
   accepted_was e =
       let behind = accepted_behind (read_refusals bytes) (later net room) (read_refuse bytes) e in
       let p = none_given (later net room) (later_refuse net room) (ap (λ (a : Answer). a.number) behind) in
-      let p8 = not_picked (too_many_rows net) (answer 8 0 0 0) (pick (too_short net room) (some (answer 8 0 0 1)) none) p.1.0 in
+      let p8 = not_picked (too_many_rows net) (answer 8 0 0 0) (pick (too_short net room) (Some (answer 8 0 0 1)) None) p.1.0 in
       record {
         reads = accepted_front (read_refusals bytes) (later net room) e;
         no_late_system = refused_nowhere 7 1 (late_system net) p.0;
-        rows_fit = ltb-false room (6 * length (rows_of net)) (not_picked (too_short net room) (answer 8 0 0 1) none p8.1).0;
+        rows_fit = ltb-false room (6 * length (rows_of net)) (not_picked (too_short net room) (answer 8 0 0 1) None p8.1).0;
         no_endless_vl = refused_nowhere 9 2 (endless_vl net) p.1.1.0;
         no_endless_port = refused_nowhere 10 4 (endless_port net) p.1.1.1.0;
       }

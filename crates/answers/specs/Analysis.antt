@@ -1,7 +1,6 @@
 -- 01, Answers by number, whole: the answer to a table and a lent result, from its bytes; and what is left in the lent result.
 -- Assumes nothing.
-use Rattle.std.specs.Prelude.{ℕ, Bool, List, [], ◌∷◌, ◌++◌, eqb, length}
-use Rattle.std.proofs.Math.Option.{Option, none, some}
+use Rattle.std.specs.Prelude.{ℕ, Bool, List, [], ◌∷◌, ◌++◌, eqb, length, Option, None, Some}
 use Rattle.base.specs.Pick.{pick}
 use Rattle.network.specs.Network.{Network}
 use Rattle.table.specs.declared.Answer.{Answer}
@@ -13,8 +12,8 @@ use Rattle.rows.specs.Refusals.{late_system, too_many_rows, too_short, endless_v
 
 -- a refusal by number at a row of a section, where there is such a row
 unfoldable pub refused_at : ℕ → ℕ → Option ℕ → Option Answer
-refused_at number section none = none
-refused_at number section (some i) = some (answer number section i 0)
+refused_at number section None = None
+refused_at number section (Some i) = Some (answer number section i 0)
 
 -- "7 .. 1, end system"
 unfoldable pub answer7 : Network → Option Answer
@@ -22,7 +21,7 @@ answer7 net = refused_at 7 1 (late_system net)
 
 -- "8 .. 0, 0"; its tests are told apart: 0 more than 1,024 rows, 1 a lent result that is too short
 unfoldable pub answer8 : Network → ℕ → Option Answer
-answer8 net room = pick (too_many_rows net) (some (answer 8 0 0 0)) (pick (too_short net room) (some (answer 8 0 0 1)) none)
+answer8 net room = pick (too_many_rows net) (Some (answer 8 0 0 0)) (pick (too_short net room) (Some (answer 8 0 0 1)) None)
 
 -- "9 .. 2, VL"
 unfoldable pub answer9 : Network → Option Answer

@@ -2,7 +2,7 @@
 -- Assumes nothing.
 use mathlib.Core.Path.{◌≡◌, refl, ap, ◌∙◌}
 use mathlib.Core.Logic.{◌⊎◌, ⊎_elim}
-use mathlib.Core.Option.{none, some}
+use Rattle.std.specs.Prelude.{None, Some}
 use Prim.Native.Nat.{ℕ, ◌+◌, ◌-◌, ◌≤◌, ◌<◌, max}
 use native.Mathlib.Decide.{dec_le}
 use native.Mathlib.Omega.{arith}
@@ -31,25 +31,25 @@ unfolding line_overhead protocol_overhead least_frame greatest_frame
 numbers_follow = (refl, refl, refl, refl)
 
 -- ---- the line size of a packet
-pub line_small : (n : ℕ) → 1 ≤ n → n ≤ 17 → line_of n ≡ some 84
+pub line_small : (n : ℕ) → 1 ≤ n → n ≤ 17 → line_of n ≡ Some 84
 unfolding line_of
 line_small n h l = rw (within_yes 1 17 n (h, l))
 
-pub line_large : (n : ℕ) → 18 ≤ n → n ≤ 1471 → line_of n ≡ some (67 + n)
+pub line_large : (n : ℕ) → 18 ≤ n → n ≤ 1471 → line_of n ≡ Some (67 + n)
 unfolding line_of
 line_large n h l = rw (within_above 1 17 n h, within_yes 18 1471 n (h, l))
 
 -- a frame has 47 bytes more than its payload and at least 64; on the line it occupies 20 more
 pub line_framed :
-    (n : ℕ) → 1 ≤ n → protocol_overhead + n ≤ greatest_frame → line_of n ≡ some (line_overhead + max least_frame (protocol_overhead + n))
+    (n : ℕ) → 1 ≤ n → protocol_overhead + n ≤ greatest_frame → line_of n ≡ Some (line_overhead + max least_frame (protocol_overhead + n))
 unfolding line_overhead protocol_overhead least_frame greatest_frame
 line_framed n h l = go (dec_le n 17)
   where
-    go : Dec (n ≤ 17) → line_of n ≡ some (20 + max 64 (47 + n))
-    go (yes s) = line_small n h s ∙ ap some (omega arith)
-    go (no b) = line_large n (omega arith) (omega arith) ∙ ap some (omega arith)
+    go : Dec (n ≤ 17) → line_of n ≡ Some (20 + max 64 (47 + n))
+    go (yes s) = line_small n h s ∙ ap Some (omega arith)
+    go (no b) = line_large n (omega arith) (omega arith) ∙ ap Some (omega arith)
 
-pub line_refused : (n : ℕ) → (n ≡ 0) ⊎ (greatest_frame < protocol_overhead + n) → line_of n ≡ none
+pub line_refused : (n : ℕ) → (n ≡ 0) ⊎ (greatest_frame < protocol_overhead + n) → line_of n ≡ None
 unfolding line_of protocol_overhead greatest_frame
 line_refused n = ⊎_elim
     (λ (e : n ≡ 0). rw (within_below 1 17 n (omega arith), within_below 18 1471 n (omega arith)))
@@ -63,10 +63,10 @@ largest_line_is l = refl
 pub largest_line_bounds : (lmax : ℕ) → 64 ≤ lmax → lmax ≤ 1518 → (least_line ≤ largest_line lmax) × (largest_line lmax ≤ 1538)
 largest_line_bounds lmax h l = omega (arith, least_line_is, largest_line_is lmax)
 
-pub largest_line_given : (lmax : ℕ) → 64 ≤ lmax → lmax ≤ 1518 → largest_line_of lmax ≡ some (largest_line lmax)
+pub largest_line_given : (lmax : ℕ) → 64 ≤ lmax → lmax ≤ 1518 → largest_line_of lmax ≡ Some (largest_line lmax)
 unfolding largest_line_of least_frame greatest_frame
 largest_line_given lmax h l = rw (within_yes 64 1518 lmax (h, l))
 
-pub largest_line_refused : (lmax : ℕ) → (lmax < 64) ⊎ (1518 < lmax) → largest_line_of lmax ≡ none
+pub largest_line_refused : (lmax : ℕ) → (lmax < 64) ⊎ (1518 < lmax) → largest_line_of lmax ≡ None
 unfolding largest_line_of least_frame greatest_frame
 largest_line_refused lmax out = rw (within_not 64 1518 lmax out)

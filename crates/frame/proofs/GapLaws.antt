@@ -3,7 +3,7 @@
 use mathlib.Core.Path.{◌≡◌, refl, sym, ap, ◌∙◌, subst}
 use mathlib.Core.Bool.{Bool, true, false, ◌&&◌, ◌||◌, not, and-eq-true_iff}
 use mathlib.Core.Logic.{◌⊎◌}
-use mathlib.Core.Option.{none, some}
+use Rattle.std.specs.Prelude.{None, Some}
 use Prim.Native.Nat.{ℕ, zero, suc, ◌*◌, ◌^◌, ◌≤◌, ◌<◌}
 use native.Mathlib.Nat.{pow-suc}
 use native.Mathlib.Omega.{arith}
@@ -34,44 +34,44 @@ table_in_ms (suc k) h =
     rw (pow-suc 2 k) (omega arith)
 
 -- ---- the gap in ticks of a code
-pub gap_given : (code : ℕ) → code < 8 → gap_of code ≡ some (get_or gaps code 0)
+pub gap_given : (code : ℕ) → code < 8 → gap_of code ≡ Some (get_or gaps code 0)
 unfolding gap_of
 gap_given code h = rw (lt-ltb code 8 h)
 
-pub gap_refused : (code : ℕ) → 8 ≤ code → gap_of code ≡ none
+pub gap_refused : (code : ℕ) → 8 ≤ code → gap_of code ≡ None
 unfolding gap_of
 gap_refused code h = rw (le-ltb code 8 h)
 
-pub gap_was : (code g : ℕ) → gap_of code ≡ some g → (code < 8) × (g ≡ per_ms * 2 ^ code)
+pub gap_was : (code g : ℕ) → gap_of code ≡ Some g → (code < 8) × (g ≡ per_ms * 2 ^ code)
 unfolding gap_of
 gap_was code g e =
     let given = pick_gave (ltb code 8) (get_or gaps code 0) g e in
     let low = ltb-true code 8 given.0 in
     (low, sym given.1 ∙ table_in_ms code low)
 
-pub gap_bounds : (code g : ℕ) → gap_of code ≡ some g → (12500 ≤ g) × (g ≤ 1600000)
+pub gap_bounds : (code g : ℕ) → gap_of code ≡ Some g → (12500 ≤ g) × (g ≤ 1600000)
 unfolding per_ms
 gap_bounds code g e =
     let was = gap_was code g e in
     omega (arith, pow_pos code, pow_mono {i = code} {j = 7} (omega arith))
 
 -- ---- the gap in milliseconds of a code
-pub ms_given : (code : ℕ) → code < 8 → ms_of code ≡ some (2 ^ code)
+pub ms_given : (code : ℕ) → code < 8 → ms_of code ≡ Some (2 ^ code)
 unfolding ms_of
 ms_given code h = rw (lt-ltb code 8 h)
 
-pub ms_refused : (code : ℕ) → 8 ≤ code → ms_of code ≡ none
+pub ms_refused : (code : ℕ) → 8 ≤ code → ms_of code ≡ None
 unfolding ms_of
 ms_refused code h = rw (le-ltb code 8 h)
 
-pub ms_was : (code ms : ℕ) → ms_of code ≡ some ms → (code < 8) × (2 ^ code ≡ ms)
+pub ms_was : (code ms : ℕ) → ms_of code ≡ Some ms → (code < 8) × (2 ^ code ≡ ms)
 unfolding ms_of
 ms_was code ms e = let given = pick_gave (ltb code 8) (2 ^ code) ms e in (ltb-true code 8 given.0, given.1)
 
-pub gap_in_ms : (code ms : ℕ) → ms_of code ≡ some ms → gap_of code ≡ some (per_ms * ms)
+pub gap_in_ms : (code ms : ℕ) → ms_of code ≡ Some ms → gap_of code ≡ Some (per_ms * ms)
 gap_in_ms code ms e =
     let was = ms_was code ms e in
-    gap_given code was.0 ∙ ap some (table_in_ms code was.0 ∙ ap (λ (n : ℕ). per_ms * n) was.1)
+    gap_given code was.0 ∙ ap Some (table_in_ms code was.0 ∙ ap (λ (n : ℕ). per_ms * n) was.1)
 
 -- ---- the code of a gap in milliseconds
 pub good_ms_lem : (ms : ℕ) → 1 ≤ ms → ms ≤ 128 → ones ms ≡ 1 → good_ms ms ≡ true
@@ -93,15 +93,15 @@ pub bits_not_good : (ms : ℕ) → 1 ≤ ms → ms ≤ 128 → (ones ms ≡ 1 �
 unfolding good_ms
 bits_not_good ms h l n = rw (within_yes 1 128 ms (h, l), ne_eqb (ones ms) 1 n)
 
-pub code_given : (ms : ℕ) → good_ms ms ≡ true → code_of ms ≡ some (count_trailing_zeros 64 ms)
+pub code_given : (ms : ℕ) → good_ms ms ≡ true → code_of ms ≡ Some (count_trailing_zeros 64 ms)
 unfolding code_of
 code_given ms e = rw e
 
-pub code_refused : (ms : ℕ) → good_ms ms ≡ false → code_of ms ≡ none
+pub code_refused : (ms : ℕ) → good_ms ms ≡ false → code_of ms ≡ None
 unfolding code_of
 code_refused ms e = rw e
 
-pub code_was : (ms code : ℕ) → code_of ms ≡ some code → (good_ms ms ≡ true) × (count_trailing_zeros 64 ms ≡ code)
+pub code_was : (ms code : ℕ) → code_of ms ≡ Some code → (good_ms ms ≡ true) × (count_trailing_zeros 64 ms ≡ code)
 unfolding code_of
 code_was ms code e = pick_gave (good_ms ms) (count_trailing_zeros 64 ms) code e
 
@@ -114,7 +114,7 @@ powers_good : T (every power_good 8)
 unfolding ones count_trailing_zeros good_ms power_good
 powers_good = tt
 
-pub code_back : (code ms : ℕ) → ms_of code ≡ some ms → code_of ms ≡ some code
+pub code_back : (code ms : ℕ) → ms_of code ≡ Some ms → code_of ms ≡ Some code
 unfolding power_good
 code_back code ms e =
     let was = ms_was code ms e in
@@ -122,7 +122,7 @@ code_back code ms e =
     let good = good_ms (2 ^ code) in
     let zeros = eqb (count_trailing_zeros 64 (2 ^ code)) code in
     rw (← was.1)
-    (code_given (2 ^ code) (is_true good (left good zeros t)) ∙ ap some (eqb→eq (count_trailing_zeros 64 (2 ^ code)) code (right good zeros t)))
+    (code_given (2 ^ code) (is_true good (left good zeros t)) ∙ ap Some (eqb→eq (count_trailing_zeros 64 (2 ^ code)) code (right good zeros t)))
 
 -- a good gap is 2 to the count of zeros below its bit, which is below 8
 good_power : ℕ → Bool
@@ -132,7 +132,7 @@ all_powers : T (every good_power 129)
 unfolding ones count_trailing_zeros good_ms good_power
 all_powers = tt
 
-pub ms_back : (ms code : ℕ) → code_of ms ≡ some code → ms_of code ≡ some ms
+pub ms_back : (ms code : ℕ) → code_of ms ≡ Some code → ms_of code ≡ Some ms
 unfolding good_power
 ms_back ms code e =
     let was = code_was ms code e in
@@ -141,4 +141,4 @@ ms_back ms code e =
     let same = eqb (2 ^ z) ms in
     let good = subst T (sym was.0) tt in
     let t = implied (good_ms ms) (small && same) (at good_power 129 all_powers ms (omega (arith, good_was ms was.0))) good in
-    rw (← was.1) (ms_given z (ltb-true z 8 (is_true small (left small same t))) ∙ ap some (eqb→eq (2 ^ z) ms (right small same t)))
+    rw (← was.1) (ms_given z (ltb-true z 8 (is_true small (left small same t))) ∙ ap Some (eqb→eq (2 ^ z) ms (right small same t)))

@@ -1,4 +1,3 @@
-pub mod ReplyLaws
 pub mod TickLaws
 pub mod FrameLaws
 pub mod PacketLaws

@@ -5,7 +5,7 @@ use mathlib.Core.Bool.{Bool, true, false, and-false}
 use mathlib.Core.Logic.{◌⊎◌, ⊎_elim}
 use mathlib.Core.List.Memᴰ
 use mathlib.Core.List.{[], ◌∷◌, sum, sum-append, Memᴰ}
-use mathlib.Core.Option.{none, some}
+use Rattle.std.specs.Prelude.{None, Some}
 use Prim.Native.Nat.{ℕ, zero, suc, ◌+◌, ◌-◌, ◌*◌, ◌/◌, ◌%◌, ◌≤◌, ◌<◌}
 use native.Mathlib.Nat.{zero-add, add_assoc, lt_of_not-le, mul-le-mul_left, lt-div-mul-add, div-mul-le_self, div-add-mod'}
 use native.Mathlib.Omega.{arith}
@@ -180,15 +180,15 @@ packets_most m lmax h l =
     (omega (arith, carried_is most_packets lmax (omega arith), rounded lmax, full_fragment_is lmax, most_fragment_is lmax, udp_header_is))
 
 -- ---- the range in which equation 4 is asked
-pub packets_given : (m lmax : ℕ) → 64 ≤ lmax → lmax ≤ 1518 → 1 ≤ m → m ≤ 8192 → packets_of m lmax ≡ some (packets m lmax)
+pub packets_given : (m lmax : ℕ) → 64 ≤ lmax → lmax ≤ 1518 → 1 ≤ m → m ≤ 8192 → packets_of m lmax ≡ Some (packets m lmax)
 unfolding packets_of least_frame greatest_frame greatest_message
 packets_given m lmax h l a b = rw (within_yes 64 1518 lmax (h, l), within_yes 1 8192 m (a, b))
 
-pub packets_frame_refused : (m lmax : ℕ) → (lmax < 64) ⊎ (1518 < lmax) → packets_of m lmax ≡ none
+pub packets_frame_refused : (m lmax : ℕ) → (lmax < 64) ⊎ (1518 < lmax) → packets_of m lmax ≡ None
 unfolding packets_of least_frame greatest_frame
 packets_frame_refused m lmax out = rw (within_not 64 1518 lmax out)
 
-pub packets_message_refused : (m lmax : ℕ) → (m < 1) ⊎ (8192 < m) → packets_of m lmax ≡ none
+pub packets_message_refused : (m lmax : ℕ) → (m < 1) ⊎ (8192 < m) → packets_of m lmax ≡ None
 unfolding packets_of greatest_message
 packets_message_refused m lmax out = rw (within_not 1 8192 m out, and-false (within least_frame greatest_frame lmax))
 
@@ -248,9 +248,9 @@ packet_lines_between m lmax low high some_bytes b member =
     subst (λ (x : ℕ). (least_line ≤ x) × (x ≤ largest_line lmax)) from.2 (fragment_line_between lmax low from.0 fits.1)
 
 -- ---- 01's rule for a payload: a packet by itself is a fragment with its UDP header
-pub line_alone : (n : ℕ) → 1 ≤ n → protocol_overhead + n ≤ greatest_frame → line_of n ≡ some (fragment_line (n + udp_header))
+pub line_alone : (n : ℕ) → 1 ≤ n → protocol_overhead + n ≤ greatest_frame → line_of n ≡ Some (fragment_line (n + udp_header))
 unfolding fragment_line line_overhead protocol_overhead least_frame greatest_frame
-line_alone n h l = line_framed n h l ∙ ap some (omega (arith, least_line_is, udp_header_is))
+line_alone n h l = line_framed n h l ∙ ap Some (omega (arith, least_line_is, udp_header_is))
 
 -- ---- M-103, whole
 pub as_ip_cuts : CutsAsIp

@@ -2,7 +2,6 @@
 -- Assumes nothing.
 use mathlib.Core.Path.{refl, sym, ◌∙◌}
 use Rattle.base.specs.Settles.{Settles}
-use Rattle.frame.proofs.ReplyLaws.{same_reply}
 use Rattle.frame.proofs.Tick.per_byte.Kinds as per-byte-kinds
 use Rattle.frame.proofs.Tick.per_byte.Reads as per-byte-reads
 use Rattle.frame.proofs.Tick.sends_in_time.Kinds as in-time-kinds
@@ -27,19 +26,19 @@ pub in_time_lem : Settles 0 in-time-kinds.ps in-time-kinds.r in-time-reads.Post
 in_time_lem κs a x y ws vs p q = (p ∙ sym q, refl)
 
 pub line : Settles 0 line-kinds.ps line-kinds.r line_reads_lem.Post
-line κs a x y ws vs p q = (same_reply _ x y p q, refl)
+line κs a x y ws vs p q = (p ∙ sym q, refl)
 
 pub largest : Settles 0 largest-kinds.ps largest-kinds.r largest-reads.Post
-largest κs a x y ws vs p q = (same_reply _ x y p q, refl)
+largest κs a x y ws vs p q = (p ∙ sym q, refl)
 
 pub packets : Settles 0 packets-kinds.ps packets-kinds.r packets-reads.Post
-packets κs a x y ws vs p q = (same_reply _ x y p q, refl)
+packets κs a x y ws vs p q = (p ∙ sym q, refl)
 
 pub gap : Settles 0 gap_kinds.ps gap_kinds.r gap-reads.Post
-gap κs a x y ws vs p q = (same_reply _ x y p q, refl)
+gap κs a x y ws vs p q = (p ∙ sym q, refl)
 
 pub code : Settles 0 code-kinds.ps code-kinds.r code_Reads.Post
-code κs a x y ws vs p q = (same_reply _ x y p q, refl)
+code κs a x y ws vs p q = (p ∙ sym q, refl)
 
 pub ms : Settles 0 ms-kinds.ps ms-kinds.r ms-reads.Post
-ms κs a x y ws vs p q = (same_reply _ x y p q, refl)
+ms κs a x y ws vs p q = (p ∙ sym q, refl)

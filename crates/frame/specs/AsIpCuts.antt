@@ -1,8 +1,7 @@
 -- M-103: what is proved of its count and its cut, for every message and every largest frame of 01's range.
 -- Assumes nothing.
-use Rattle.std.specs.Prelude.{ℕ, ◌+◌, ◌-◌, ◌≤◌, ◌≡◌, length}
+use Rattle.std.specs.Prelude.{ℕ, ◌+◌, ◌-◌, ◌≤◌, ◌≡◌, length, Some}
 use mathlib.Core.List.{sum, Memᴰ}
-use Rattle.std.proofs.Math.Option.{some}
 use Rattle.base.specs.Round.{up}
 use Rattle.frame.specs.Frame.{protocol_overhead, least_frame, greatest_frame, line_of, least_line, largest_line}
 use Rattle.frame.specs.Packets.{udp_header, most_fragment, full_fragment, carried, packets, cut, fragment_line, packet_lines}
@@ -18,7 +17,7 @@ pub record AsIpCuts (m lmax : ℕ) : Type 0 where
   -- "so does the sampling limit": one packet exactly if M is at most Lmax − 47, and then 01's rule for a payload gives its line size
   pub one : m ≤ lmax - protocol_overhead → packets m lmax ≡ 1
   pub one_was : packets m lmax ≡ 1 → m ≤ lmax - protocol_overhead
-  pub alone : packets m lmax ≡ 1 → line_of m ≡ some (fragment_line (m + udp_header))
+  pub alone : packets m lmax ≡ 1 → line_of m ≡ Some (fragment_line (m + udp_header))
   -- "fewer packets than we state": never more than M / (Lmax − 47) rounded up
   pub no_more : packets m lmax ≤ up m (lmax - protocol_overhead)
   -- the cut has that many fragments; together they are the message and one UDP header; each has a byte and at most S, also the last,

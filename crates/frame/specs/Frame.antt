@@ -1,7 +1,6 @@
 -- 01, Frames: the four numbers of a frame, and the bytes that a packet occupies on the line.
 -- Assumes nothing.
-use Rattle.std.specs.Prelude.{ℕ, ◌+◌}
-use Rattle.std.proofs.Math.Option.{Option, none, some}
+use Rattle.std.specs.Prelude.{ℕ, ◌+◌, Option, None, Some}
 use Rattle.base.specs.Pick.{pick, within}
 
 -- "Overhead on the line is 20 bytes"
@@ -22,7 +21,7 @@ greatest_frame = 1518
 
 -- "A packet payload of 1 to 17 bytes occupies 84 bytes on the line, 18 to 1,471 occupies 67 plus the payload, any other is refused (4)."
 unfoldable pub line_of : ℕ → Option ℕ
-line_of payload = pick (within 1 17 payload) (some 84) (pick (within 18 1471 payload) (some (67 + payload)) none)
+line_of payload = pick (within 1 17 payload) (Some 84) (pick (within 18 1471 payload) (Some (67 + payload)) None)
 
 -- the least that any frame occupies on the line: the 84 bytes of 01's best figure
 unfoldable pub least_line : ℕ

@@ -3,5 +3,4 @@ pub mod Frame
 pub mod Packets
 pub mod AsIpCuts
 pub mod Gap
-pub mod Reply
 pub mod Offered

@@ -1,10 +1,8 @@
 // The frame rule: the tick, the line size of a packet, the packets of a message, and the gap between the frames of a VL.
-// Every routine answers for all input: what 01 gives no number for is refused.
+// Every routine answers for all input: what 01 gives no number for is refused (4), which is None; `ruled` of crate base has 01's number and values.
 #![tactic(auto)]
 
 ghost use Rattle.std.specs.Prelude.{◌≡◌};
-ghost use Rattle.base.specs.Said.{ruled};
-ghost use Rattle.frame.specs.Reply.{said};
 ghost use Rattle.frame.specs.Tick.{per_byte, sends_in_time};
 ghost use Rattle.frame.specs.Frame.{line_of};
 ghost use Rattle.frame.specs.Offered.{largest_line_of, packets_of};
@@ -72,38 +70,31 @@ impl Frame {
     pub const LEAST_LINE: u64 = Frame::LINE_OVERHEAD + Frame::LEAST;
 }
 
-// What a rule gives, or its refusal (4).
-#[derive(Clone, Copy)]
-pub enum Reply {
-    Value(u64),
-    Refused,
-}
-
 // The bytes that a packet of this payload occupies on the line.
-pub fn line_of(payload: u64) -> Reply
-    ensures { said result ≡ ruled (line_of payload) }
+pub fn line_of(payload: u64) -> Option<u64>
+    ensures { result ≡ line_of payload }
 {
     match payload {
-        1..=17 => Reply::Value(84),
-        18..=1471 => Reply::Value(67 + payload),
-        _ => Reply::Refused,
+        1..=17 => Some(84),
+        18..=1471 => Some(67 + payload),
+        _ => None,
     }
 }
 
 // The most bytes that a frame of a VL of largest frame lmax occupies on the line.
-pub fn largest_line(lmax: u64) -> Reply
-    ensures { said result ≡ ruled (largest_line_of lmax) }
+pub fn largest_line(lmax: u64) -> Option<u64>
+    ensures { result ≡ largest_line_of lmax }
 {
     match lmax {
-        Frame::LEAST..=Frame::GREATEST => Reply::Value(Frame::LINE_OVERHEAD + lmax),
-        _ => Reply::Refused,
+        Frame::LEAST..=Frame::GREATEST => Some(Frame::LINE_OVERHEAD + lmax),
+        _ => None,
     }
 }
 
 // The packets that a message of m bytes becomes on a VL of largest frame lmax. With its UDP header it goes into full fragments, and
 // the last one has room for what is spare beside them.
-pub fn packets_of(m: u64, lmax: u64) -> Reply
-    ensures { said result ≡ ruled (packets_of m lmax) }
+pub fn packets_of(m: u64, lmax: u64) -> Option<u64>
+    ensures { result ≡ packets_of m lmax }
 {
     match lmax {
         Frame::LEAST..=Frame::GREATEST => match m {
@@ -111,11 +102,11 @@ pub fn packets_of(m: u64, lmax: u64) -> Reply
                 let most = lmax - (Frame::PROTOCOL_OVERHEAD - Frame::UDP_HEADER);
                 let spare = most % Frame::FRAGMENT_UNIT;
                 let full = most - spare;
-                Reply::Value((m + (Frame::UDP_HEADER - spare) + (full - 1)) / full)
+                Some((m + (Frame::UDP_HEADER - spare) + (full - 1)) / full)
             }
-            _ => Reply::Refused,
+            _ => None,
         },
-        _ => Reply::Refused,
+        _ => None,
     }
 }
 
@@ -131,39 +122,35 @@ const GAPS: [u64; 8] = [
 ];
 
 // The gap in ticks that a code stands for.
-pub fn gap_of(code: u64) -> Reply
-    ensures { said result ≡ ruled (gap_of code) }
+pub fn gap_of(code: u64) -> Option<u64>
+    ensures { result ≡ gap_of code }
 {
     if code < 8 {
-        Reply::Value(GAPS[code as usize])
+        Some(GAPS[code as usize])
     } else {
-        Reply::Refused
+        None
     }
 }
 
 // The code of a gap in milliseconds: good from 1 to 128 with exactly one bit set.
-pub fn code_of(ms: u64) -> Reply
-    ensures { said result ≡ ruled (code_of ms) }
+pub fn code_of(ms: u64) -> Option<u64>
+    ensures { result ≡ code_of ms }
 {
     match ms {
         1..=128 => {
-            if u64::count_ones(ms) == 1 {
-                Reply::Value(u64::trailing_zeros(ms) as u64)
+            if ms.count_ones() == 1 {
+                Some(ms.trailing_zeros() as u64)
             } else {
-                Reply::Refused
+                None
             }
         }
-        _ => Reply::Refused,
+        _ => None,
     }
 }
 
 // The gap in milliseconds that a code stands for.
-pub fn ms_of(code: u64) -> Reply
-    ensures { said result ≡ ruled (ms_of code) }
+pub fn ms_of(code: u64) -> Option<u64>
+    ensures { result ≡ ms_of code }
 {
-    if code < 8 {
-        Reply::Value(1u64 << code)
-    } else {
-        Reply::Refused
-    }
+    if code < 8 { Some(1u64 << code) } else { None }
 }

@@ -4,7 +4,7 @@ use Prim.Native.Nat.{ℕ, zero, suc, ◌+◌}
 use mathlib.Core.Bool.{false, cond, ◌&&◌}
 use mathlib.Core.List.Memᴰ
 use mathlib.Core.List.{List, [], ◌∷◌}
-use mathlib.Core.Option.{Option, none, some}
+use Rattle.std.specs.Prelude.{Option, None, Some}
 use mathlib.Core.Path.{◌≡◌, refl}
 use native.Mathlib.Omega.{arith}
 use lib.Dec.{eqb}
@@ -15,7 +15,6 @@ use Rattle.frame.specs.Frame.{line_overhead, least_frame, least_line}
 use Rattle.frame.specs.Packets.{udp_header, most_fragment, full_fragment, carried, packets, cut, fragment_line, packet_lines}
 use Rattle.frame.specs.Tick.{in_force}
 use Rattle.network.specs.Link.{on_line, line_ticks}
-use Rattle.network.specs.declared.Parent.TheVariants.{Root, After}
 use Rattle.network.specs.declared.Vl.{Vl}
 use Rattle.network.specs.declared.Stream.{Stream}
 use Rattle.network.specs.declared.Port.{Port}
@@ -65,11 +64,11 @@ news (suc t) i = []
 abbrev pub at_0_4_5_9_10_15 : Queue ℕ → List (Option ℕ)
 at_0_4_5_9_10_15 s = handed 5 s news 0 ∷ handed 5 s news 4 ∷ handed 5 s news 5 ∷ handed 5 s news 9 ∷ handed 5 s news 10 ∷ handed 5 s news 15 ∷ []
 
-pub turns_0 : at_0_4_5_9_10_15 from_0 ≡ some 1 ∷ none ∷ some 7 ∷ none ∷ some 2 ∷ none ∷ []
+pub turns_0 : at_0_4_5_9_10_15 from_0 ≡ Some 1 ∷ None ∷ Some 7 ∷ None ∷ Some 2 ∷ None ∷ []
 unfolding handed queue
 turns_0 = refl
 
-pub turns_1 : at_0_4_5_9_10_15 from_1 ≡ some 7 ∷ none ∷ some 1 ∷ none ∷ some 2 ∷ none ∷ []
+pub turns_1 : at_0_4_5_9_10_15 from_1 ≡ Some 7 ∷ None ∷ Some 1 ∷ None ∷ Some 2 ∷ None ∷ []
 unfolding handed queue
 turns_1 = refl
 
@@ -164,17 +163,17 @@ abbrev pub turn_passed : Run
 turn_passed = looking_at (waiting 1 ∷ waiting 0 ∷ [])
 
 -- what the link sends after tick 0
-pub first_0 : ((state pair turn_kept 1).end 0).link ≡ some (record { job = frame_on 0; ends = 84 })
+pub first_0 : ((state pair turn_kept 1).end 0).link ≡ Some (record { job = frame_on 0; ends = 84 })
 unfolding state line_ticks on_line
 first_0 = refl
 
-pub first_1 : ((state pair turn_passed 1).end 0).link ≡ some (record { job = frame_on 1; ends = 84 })
+pub first_1 : ((state pair turn_passed 1).end 0).link ≡ Some (record { job = frame_on 1; ends = 84 })
 unfolding state line_ticks on_line
 first_1 = refl
 
 -- ---- one message of 10 bytes over one port, 84 ticks on each link: it is complete in tick 168, and not before
 abbrev pub small : Network
-small = network 0 (vl ∷ []) (stream_on 0 ∷ []) (port_to 0 ∷ []) (record { vl = 0; port = 0; parent = Root } ∷ [])
+small = network 0 (vl ∷ []) (stream_on 0 ∷ []) (port_to 0 ∷ []) (record { vl = 0; port = 0; parent = None } ∷ [])
 
 -- its packet, handed over in tick t
 abbrev pub packet : Packet
@@ -195,7 +194,7 @@ at_once = run_of one_release 0 (λ h. 0) 0 (λ t. cond (eqb t 0) (message_of 0 0
     (λ t p. cond (eqb t 84) (record { frame = frame 0; hop = 0 } ∷ []) []) (lane_in 0)
 
 -- a packet is handed over in the tick in which it comes to its queue
-pub in_its_tick : (hands small 0 (at_once.choice 0) (state small at_once 0) 0).got ≡ some packet
+pub in_its_tick : (hands small 0 (at_once.choice 0) (state small at_once 0) 0).got ≡ Some packet
 unfolding state line_ticks on_line passing packet_lines cut packets number_or0 least_from carried most_fragment full_fragment udp_header fragment_line least_line line_overhead least_frame
 in_its_tick = refl
 
@@ -211,7 +210,7 @@ not_there = refl
 -- what the run says enters
 abbrev pub two : Network
 two = network 9 (vl ∷ []) (stream_on 0 ∷ []) (port_to 9 ∷ port_to 9 ∷ [])
-    (record { vl = 0; port = 0; parent = Root } ∷ record { vl = 0; port = 1; parent = After 0 } ∷ [])
+    (record { vl = 0; port = 0; parent = None } ∷ record { vl = 0; port = 1; parent = Some 0 } ∷ [])
 
 -- with a switch delay of d before port 0
 abbrev pub over_two : ℕ → Run
@@ -247,13 +246,13 @@ not_10 p = omega (arith, p.flight_greatest 86 0 (frame 2) (omega arith) (omega a
 -- ---- one VL with two hops without parent: a frame that its end system has sent whole goes to both
 abbrev pub fork : Network
 fork = network 0 (vl ∷ []) (stream_on 0 ∷ []) (port_to 0 ∷ port_to 0 ∷ [])
-    (record { vl = 0; port = 0; parent = Root } ∷ record { vl = 0; port = 1; parent = Root } ∷ [])
+    (record { vl = 0; port = 0; parent = None } ∷ record { vl = 0; port = 1; parent = None } ∷ [])
 
 abbrev pub sending : State
 sending = record {
   sending = [];
   queue = λ v. record { lanes = []; next = 0 };
-  end = λ e. record { lanes = []; link = some (record { job = frame 0; ends = 84 }) };
+  end = λ e. record { lanes = []; link = Some (record { job = frame 0; ends = 84 }) };
   flying = λ h. [];
   port = λ p. Fifo.empty;
   receiving = λ h. [];

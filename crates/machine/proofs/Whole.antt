@@ -3,7 +3,7 @@
 use Prim.Native.Nat.{ℕ, zero, suc, ◌-◌, ◌<◌}
 use mathlib.Core.Bool.{true, false}
 use mathlib.Core.List.{List, [], ◌∷◌}
-use mathlib.Core.Option.{Option, some}
+use Rattle.std.specs.Prelude.{Option, Some, None}
 use mathlib.Core.Path.{◌≡◌, refl, ap, ◌∙◌}
 use native.Mathlib.Omega.{arith}
 use lib.Dec.{leb, leb→le}
@@ -14,7 +14,6 @@ use Rattle.base.proofs.Every.{at}
 use Rattle.frame.specs.Frame.{line_overhead, least_frame, least_line, largest_line}
 use Rattle.frame.specs.Packets.{udp_header, most_fragment, full_fragment, carried, packets}
 use Rattle.frame.specs.Tick.{in_force}
-use Rattle.network.specs.declared.Parent.TheVariants.{Root}
 use Rattle.network.specs.Network.{Network, system_at, vl_at, stream_at, port_at, hop_at}
 use Rattle.network.specs.References.{names_system, has_hop, stream_names_vl, names_sub_link, hop_names_vl, names_port, of_parent, parent_earlier, parent_same_vl, parent_lower_port, twin_of, no_earlier_twin, route_longer, not_too_deep, vl_tests, stream_tests, hop_tests, ref_fault, bad_reference}
 use Rattle.network.specs.Link.{on_line, line_ticks, least_ticks, most_ticks, spread_ticks}
@@ -50,7 +49,7 @@ whole = record {
       record { vl = 0; sublink = 0; sampling = false; size = 2000; least = 1000; period = 250000; jitter = 0 }
       ∷ record { vl = 1; sublink = 0; sampling = true; size = 469; least = 10; period = 500000; jitter = 1000 } ∷ [];
   ports = record { perbyte = 1; least = 875; greatest = 1250 } ∷ [];
-  hops = record { vl = 0; port = 0; parent = Root } ∷ record { vl = 1; port = 0; parent = Root } ∷ [];
+  hops = record { vl = 0; port = 0; parent = None } ∷ record { vl = 1; port = 0; parent = None } ∷ [];
 }
 
 references : References whole
@@ -93,7 +92,7 @@ port_flows_lem : port_flows whole (jitter_of whole) 0 ≡ flows
 unfolding port_flows hop_flow hops_on hop_most jitter_of jitter_below root_jitter mux_wait send_most send_spread hop_spread most_ticks spread_ticks line_ticks on_line largest_line least_line least_frame line_overhead total passing
 port_flows_lem = refl
 
-lengths : (busy_length flow_0 ≡ some 25000) × (busy_length flow_1 ≡ some 25000) × (busy_length flows ≡ some 2074)
+lengths : (busy_length flow_0 ≡ Some 25000) × (busy_length flow_1 ≡ Some 25000) × (busy_length flows ≡ Some 2074)
 unfolding climb all_in_range in_range brought most limit
 lengths = (computed_length flow_0 refl 9 25000 refl, computed_length flow_1 refl 9 25000 refl, computed_length flows refl 9 2074 refl)
 
@@ -105,10 +104,10 @@ figures = (
   computed_figure flows refl 9 2073 (record { figure = 2074; span = 0 }) refl,
 )
 
-queue_lengths : (queue_length whole 0 0 ≡ some 25000) × (queue_length whole 1 0 ≡ some 25000)
+queue_lengths : (queue_length whole 0 0 ≡ Some 25000) × (queue_length whole 1 0 ≡ Some 25000)
 queue_lengths = (queue_length_is whole refl 0 0 ∙ ap busy_length queue_flows_lem.0 ∙ lengths.0, queue_length_is whole refl 1 0 ∙ ap busy_length queue_flows_lem.1 ∙ lengths.1)
 
-port_length_lem : port_length whole (jitter_of whole) 0 ≡ some 2074
+port_length_lem : port_length whole (jitter_of whole) 0 ≡ Some 2074
 port_length_lem = port_length_is whole refl (jitter_of whole) 0 ∙ ap busy_length port_flows_lem ∙ lengths.2
 
 pub busy : Busy whole
@@ -125,7 +124,7 @@ busy = record { queue = queue; port = port }
     port (suc (suc g)) h = absurd (omega arith)
 
 -- ---- the rows
-queue_figure_lem : (fs gs : List Flow) (l f : ℕ) → fs ≡ gs → busy_length gs ≡ some l → figure gs l ≡ f → figure fs (number_or0 (busy_length fs)) ≡ f
+queue_figure_lem : (fs gs : List Flow) (l f : ℕ) → fs ≡ gs → busy_length gs ≡ Some l → figure gs l ≡ f → figure fs (number_or0 (busy_length fs)) ≡ f
 unfolding number_or0
 queue_figure_lem fs gs l f e b g =
     ap (λ (z : List Flow). figure z (number_or0 (busy_length z))) e ∙ ap (λ (o : Option ℕ). figure gs (number_or0 o)) b ∙ g

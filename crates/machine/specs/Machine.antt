@@ -1,7 +1,6 @@
 -- The tick machine of demand 3: what a network may do, tick by tick. A sentence in quotes is 01's, except where it is said to be the
 -- order's. Lists are queues, their heads first; none is bounded and nothing is dropped. Assumes nothing.
-use Rattle.std.specs.Prelude.{ℕ, zero, suc, true, cond, List, [], ◌++◌}
-use Rattle.std.proofs.Math.Option.{Option, none, some}
+use Rattle.std.specs.Prelude.{ℕ, zero, suc, true, cond, List, [], ◌++◌, Option, None, Some}
 use Rattle.base.specs.Tabulate.{passing}
 use Rattle.network.specs.Network.{Network, vl_at, hop_at, parent_at}
 use Rattle.network.specs.Views.{hops_on, vls_of, leaf}
@@ -66,8 +65,8 @@ module _ (net : Network) where
     -- "A frame sent whole by the end system goes to every hop of its VL without parent, one sent whole by a port to every hop whose
     -- parent is that hop."
     abbrev pub sets_from : ℕ → Option ℕ → List Frame
-    sets_from v none = of_vl v (ended t (s.end (vl_at net v).system).link)
-    sets_from v (some g) = delivered g
+    sets_from v None = of_vl v (ended t (s.end (vl_at net v).system).link)
+    sets_from v (Some g) = delivered g
 
     abbrev pub sets_out : ℕ → List Frame
     sets_out h = sets_from (hop_at net h).vl (parent_at net h)
@@ -136,7 +135,7 @@ module _ (net : Network) where
   start r = record {
     sending = [];
     queue = λ v. record { lanes = lanes_of (from_turn (r.first_sub v) (passing (λ k. true) (vl_at net v).sublinks)); next = 0 };
-    end = λ e. record { lanes = lanes_of (from_turn (r.first_vl e) (vls_of net e)); link = none };
+    end = λ e. record { lanes = lanes_of (from_turn (r.first_vl e) (vls_of net e)); link = None };
     flying = λ h. [];
     port = λ p. Fifo.empty;
     receiving = λ h. [];

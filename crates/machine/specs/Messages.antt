@@ -1,7 +1,6 @@
 -- Releases, messages, packets and frames: what goes through the network.
 -- Assumes nothing.
-use Rattle.std.specs.Prelude.{ℕ, suc, cond, ◌&&◌, List, [], ◌∷◌, ◌++◌, eqb}
-use Rattle.std.proofs.Math.Option.{Option, none, some}
+use Rattle.std.specs.Prelude.{ℕ, suc, cond, ◌&&◌, List, [], ◌∷◌, ◌++◌, eqb, Option, None, Some}
 use Rattle.frame.specs.Packets.{packet_lines}
 use Rattle.network.specs.Link.{system_link, port_link, line_ticks}
 use Rattle.network.specs.Network.{Network, vl_at, stream_at}
@@ -47,8 +46,8 @@ number m i (b ∷ bs) = record { message = m; index = i; bytes = b } ∷ number 
 
 -- a packet handed over in tick t is a frame from then on
 abbrev pub framed : ℕ → ℕ → Option Packet → List Frame
-framed v t none = []
-framed v t (some x) = record { packet = x; vl = v; born = t } ∷ []
+framed v t None = []
+framed v t (Some x) = record { packet = x; vl = v; born = t } ∷ []
 
 abbrev pub copy : ℕ → Frame → Copy
 copy h f = record { frame = f; hop = h }

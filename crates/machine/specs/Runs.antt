@@ -1,8 +1,7 @@
 -- What is said of runs: when a message is complete, how long a packet waited, that a wait is reached, that there are runs, and that they go
 -- on. The order's demand 3 is said in these words (order/specs/Demand3). Assumes nothing.
-use Rattle.std.specs.Prelude.{ℕ, suc, ◌+◌, ◌≤◌, ◌<◌, ◌≡◌, length}
+use Rattle.std.specs.Prelude.{ℕ, suc, ◌+◌, ◌≤◌, ◌<◌, ◌≡◌, length, Some}
 use mathlib.Core.List.{List, Memᴰ}
-use Rattle.std.proofs.Math.Option.{some}
 use Rattle.network.specs.Network.{Network, stream_at, port_at, hop_at}
 use Rattle.station.specs.Station.{most}
 use Rattle.machine.specs.Sum.{span}
@@ -26,7 +25,7 @@ module _ (net : Network) where
 
   -- VL v hands over packet x in tick t
   abbrev pub Hands : Run → ℕ → ℕ → Packet → Type 0
-  Hands r v t x = (hands net t (r.choice t) (state net r t) v).got ≡ some x
+  Hands r v t x = (hands net t (r.choice t) (state net r t) v).got ≡ Some x
 
   -- "The wait is hand-over less arrival": packet x, handed over in tick t, waited at most w ticks since it came to its queue, in that tick
   -- below n and in no other

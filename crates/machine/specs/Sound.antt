@@ -1,8 +1,7 @@
 -- What the machine's own theorem (OverNetworks) asks of a network: references as 01 has them, records in range, end systems that send a
 -- frame of each of their VLs within a gap; and that the busy lengths exist. The order's demand 3 asks only that the table is accepted,
 -- which gives all this (order/proofs/SoundLaws), so nobody has to believe it. Assumes nothing.
-use Rattle.std.specs.Prelude.{ℕ, ◌≤◌, ◌<◌, ◌≡◌, length}
-use Rattle.std.proofs.Math.Option.{Option, some}
+use Rattle.std.specs.Prelude.{ℕ, ◌≤◌, ◌<◌, ◌≡◌, length, Option, Some}
 use Rattle.network.specs.Network.{Network, system_at, vl_at, stream_at, port_at, hop_at}
 use Rattle.network.specs.ReferenceFacts.{References}
 use Rattle.rows.specs.Links.{send_sum}
@@ -28,7 +27,7 @@ pub record Sound (net : Network) : Type 0 where
 -- there is a busy length
 pub record Has (o : Option ℕ) : Type 0 where
   pub length : ℕ
-  pub is : o ≡ some length
+  pub is : o ≡ Some length
 
 -- every sub-link with a stream has one, and every port with a hop
 pub record Busy (net : Network) : Type 0 where

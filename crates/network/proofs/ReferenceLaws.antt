@@ -3,7 +3,7 @@
 use Prim.Native.Nat.{ℕ, zero, suc, ◌<◌}
 use mathlib.Core.Bool.{true, not}
 use mathlib.Core.Logic.{⊎_elim}
-use mathlib.Core.Option.{none}
+use Rattle.std.specs.Prelude.{None}
 use mathlib.Core.Path.{◌≡◌, sym, ap}
 use native.Mathlib.Decide.{dec_le}
 use native.Mathlib.Nat.{eq-or-lt_of_le}
@@ -19,22 +19,22 @@ use Rattle.network.proofs.ReferenceTests.{names_system_lem, names_system_was, ha
 
 -- ---- rows: no test of a row fails
 module _ (net : Network) (i : ℕ) where
-  pub vl_row : names_system net i ≡ true → has_hop net i ≡ true → ref_fault net 2 i ≡ none
+  pub vl_row : names_system net i ≡ true → has_hop net i ≡ true → ref_fault net 2 i ≡ None
   unfolding ref_fault vl_tests
   vl_row a b = one_more_passes _ _ a (one_more_passes _ _ b first_of_no_tests)
 
-  pub vl_row_was : ref_fault net 2 i ≡ none → (names_system net i ≡ true) × (has_hop net i ≡ true)
+  pub vl_row_was : ref_fault net 2 i ≡ None → (names_system net i ≡ true) × (has_hop net i ≡ true)
   unfolding ref_fault vl_tests
   vl_row_was e =
       let a = one_more_passed (names_system net i) _ e in
       let b = one_more_passed (has_hop net i) _ a.1 in
       (a.0, b.0)
 
-  pub stream_row_lem : stream_names_vl net i ≡ true → names_sub_link net i ≡ true → ref_fault net 3 i ≡ none
+  pub stream_row_lem : stream_names_vl net i ≡ true → names_sub_link net i ≡ true → ref_fault net 3 i ≡ None
   unfolding ref_fault stream_tests
   stream_row_lem a b = one_more_passes _ _ a (one_more_passes _ _ b first_of_no_tests)
 
-  pub stream_row_was : ref_fault net 3 i ≡ none → (stream_names_vl net i ≡ true) × (names_sub_link net i ≡ true)
+  pub stream_row_was : ref_fault net 3 i ≡ None → (stream_names_vl net i ≡ true) × (names_sub_link net i ≡ true)
   unfolding ref_fault stream_tests
   stream_row_was e =
       let a = one_more_passed (stream_names_vl net i) _ e in
@@ -50,7 +50,7 @@ module _ (net : Network) (i : ℕ) where
     pub no_twin : no_earlier_twin net i ≡ true
     pub not_deep : not_too_deep net i ≡ true
 
-  pub hop_row_lem : HopPasses → ref_fault net 5 i ≡ none
+  pub hop_row_lem : HopPasses → ref_fault net 5 i ≡ None
   unfolding ref_fault hop_tests
   hop_row_lem t =
       one_more_passes _ _ t.vl
@@ -59,7 +59,7 @@ module _ (net : Network) (i : ℕ) where
       (one_more_passes _ _ t.same_vl
       (one_more_passes _ _ t.lower_port (one_more_passes _ _ t.no_twin (one_more_passes _ _ t.not_deep first_of_no_tests))))))
 
-  pub hop_row_was : ref_fault net 5 i ≡ none → HopPasses
+  pub hop_row_was : ref_fault net 5 i ≡ None → HopPasses
   unfolding ref_fault hop_tests
   hop_row_was e =
       let a = one_more_passed (hop_names_vl net i) _ e in
@@ -72,16 +72,16 @@ module _ (net : Network) (i : ℕ) where
       record { vl = a.0; port = b.0; earlier = c.0; same_vl = d.0; lower_port = f.0; no_twin = g.0; not_deep = h.0 }
 
 -- ---- sections: no row has a failing test
-pub no_bad_row : (net : Network) (s : ℕ) → ((i : ℕ) → i < naming_rows net s → ref_fault net s i ≡ none) → bad_reference net s ≡ none
+pub no_bad_row : (net : Network) (s : ℕ) → ((i : ℕ) → i < naming_rows net s → ref_fault net s i ≡ None) → bad_reference net s ≡ None
 unfolding bad_reference
 no_bad_row net s all = no_row (ref_fault net s) 0 (naming_rows net s) (λ i a b. all i (omega arith))
 
-pub no_bad_row_was : (net : Network) (s i : ℕ) → bad_reference net s ≡ none → i < naming_rows net s → ref_fault net s i ≡ none
+pub no_bad_row_was : (net : Network) (s i : ℕ) → bad_reference net s ≡ None → i < naming_rows net s → ref_fault net s i ≡ None
 unfolding bad_reference
 no_bad_row_was net s i e h = no_row_was (ref_fault net s) 0 (naming_rows net s) e i (omega arith) (omega arith)
 
 -- ---- the plain facts from the three sections that name something
-pub references_hold : (net : Network) → bad_reference net 2 ≡ none → bad_reference net 3 ≡ none → bad_reference net 5 ≡ none → References net
+pub references_hold : (net : Network) → bad_reference net 2 ≡ None → bad_reference net 3 ≡ None → bad_reference net 5 ≡ None → References net
 unfolding naming_rows
 references_hold net e2 e3 e5 =
     let vls : (v : ℕ) → v < length net.vls → (names_system net v ≡ true) × (has_hop net v ≡ true) = λ v l. vl_row_was net v (no_bad_row_was net 2 v e2 l) in
@@ -103,15 +103,15 @@ references_hold net e2 e3 e5 =
 
 -- ---- and from the plain facts no section has a bad reference
 module _ (net : Network) (refs : References net) where
-  vls_good : bad_reference net 2 ≡ none
+  vls_good : bad_reference net 2 ≡ None
   unfolding naming_rows
   vls_good = no_bad_row net 2 (λ v l. vl_row net v (names_system_lem net v (refs.vl_system v l)) (has_hop_lem net v (refs.vl_hop v l)))
 
-  streams_good : bad_reference net 3 ≡ none
+  streams_good : bad_reference net 3 ≡ None
   unfolding naming_rows
   streams_good = no_bad_row net 3 (λ s l. stream_row_lem net s (stream_names_vl_lem net s (refs.stream_vl s l)) (names_sub_link_lem net s (refs.stream_sub_link s l)))
 
-  hops_good : bad_reference net 5 ≡ none
+  hops_good : bad_reference net 5 ≡ None
   unfolding naming_rows
   hops_good = no_bad_row net 5
       (λ h l. hop_row_lem net h
@@ -125,7 +125,7 @@ module _ (net : Network) (refs : References net) where
         not_deep = not_too_deep_lem net h (refs.not_deep h l);
       })
 
-  pub no_bad_reference : (s : ℕ) → bad_reference net s ≡ none
+  pub no_bad_reference : (s : ℕ) → bad_reference net s ≡ None
   unfolding naming_rows
   no_bad_reference zero = no_bad_row net 0 (λ i l. absurd (omega arith))
   no_bad_reference (suc zero) = no_bad_row net 1 (λ i l. absurd (omega arith))
@@ -147,13 +147,13 @@ references_exactly net =
     (λ refs. (no_bad_reference net refs 2, no_bad_reference net refs 3, no_bad_reference net refs 5), λ e. references_hold net e.0 e.1 e.2)
 
 -- ---- 6: no sample is bad exactly if every sampling message is one packet at most
-pub samples_fit : (net : Network) → bad_sample net ≡ none → SamplesFit net
+pub samples_fit : (net : Network) → bad_sample net ≡ None → SamplesFit net
 unfolding bad_sample
 samples_fit net e s l t =
     let passed = none_was (λ s. not (one_sample net s)) 0 (length net.streams) s e (omega arith) (omega arith) in
     one_sample_was net s (not-false (one_sample net s) passed) t
 
-pub no_bad_sample : (net : Network) → SamplesFit net → bad_sample net ≡ none
+pub no_bad_sample : (net : Network) → SamplesFit net → bad_sample net ≡ None
 unfolding bad_sample
 no_bad_sample net fits =
     least_none (λ s. not (one_sample net s)) 0 (length net.streams) (λ s a b. ap not (one_sample_lem net s (fits s (omega arith))))

@@ -2,7 +2,7 @@
 -- Assumes nothing.
 use Prim.Native.Nat.{ℕ, ◌≤◌, ◌<◌}
 use mathlib.Core.Bool.{Bool, true, false, true≢false, ◌||◌, not, and-eq-true_iff}
-use mathlib.Core.Option.{Option, none, some}
+use Rattle.std.specs.Prelude.{Option, None, Some}
 use mathlib.Core.Path.{◌≡◌, refl, sym, ap, ◌∙◌}
 use native.Mathlib.Omega.{arith}
 use borrow.Author.Tests.{lt-ltb, ltb-true, le-leb, leb-true, eq-eqb, eqb-true, not-true}
@@ -74,43 +74,43 @@ unfolding names_port
 names_port_was net h e = ltb-true (hop_at net h).port (length net.ports) e
 
 -- a test of the parent passes exactly if it passes of each parent that there is
-pub of_parent_lem : (net : Network) (test : ℕ → Bool) (h : ℕ) → ((g : ℕ) → parent_at net h ≡ some g → test g ≡ true) → of_parent net test h ≡ true
+pub of_parent_lem : (net : Network) (test : ℕ → Bool) (h : ℕ) → ((g : ℕ) → parent_at net h ≡ Some g → test g ≡ true) → of_parent net test h ≡ true
 unfolding of_parent
 of_parent_lem net test h all = go (parent_at net h) refl
   where
-    go : (o : Option ℕ) → parent_at net h ≡ o → elim o [ none ↦ true | some g ↦ test g ] ≡ true
-    go none e = refl
-    go (some g) e = all g e
+    go : (o : Option ℕ) → parent_at net h ≡ o → elim o [ None ↦ true | Some g ↦ test g ] ≡ true
+    go None e = refl
+    go (Some g) e = all g e
 
-pub of_parent_was : (net : Network) (test : ℕ → Bool) (h g : ℕ) → of_parent net test h ≡ true → parent_at net h ≡ some g → test g ≡ true
+pub of_parent_was : (net : Network) (test : ℕ → Bool) (h g : ℕ) → of_parent net test h ≡ true → parent_at net h ≡ Some g → test g ≡ true
 unfolding of_parent
-of_parent_was net test h g t e = sym (ap (λ (o : Option ℕ). elim o [ none ↦ true | some i ↦ test i ]) e) ∙ t
+of_parent_was net test h g t e = sym (ap (λ (o : Option ℕ). elim o [ None ↦ true | Some i ↦ test i ]) e) ∙ t
 
 module _ (net : Network) (h : ℕ) where
-  pub parent_is_earlier : ((g : ℕ) → parent_at net h ≡ some g → g < h) → parent_earlier net h ≡ true
+  pub parent_is_earlier : ((g : ℕ) → parent_at net h ≡ Some g → g < h) → parent_earlier net h ≡ true
   unfolding parent_earlier
   parent_is_earlier all = of_parent_lem net (λ g. ltb g h) h (λ g e. lt-ltb g h (all g e))
 
-  pub parent_was_earlier : (g : ℕ) → parent_earlier net h ≡ true → parent_at net h ≡ some g → g < h
+  pub parent_was_earlier : (g : ℕ) → parent_earlier net h ≡ true → parent_at net h ≡ Some g → g < h
   unfolding parent_earlier
   parent_was_earlier g t e = ltb-true g h (of_parent_was net (λ g. ltb g h) h g t e)
 
-  pub parent_has_vl : ((g : ℕ) → parent_at net h ≡ some g → (hop_at net g).vl ≡ (hop_at net h).vl) → parent_same_vl net h ≡ true
+  pub parent_has_vl : ((g : ℕ) → parent_at net h ≡ Some g → (hop_at net g).vl ≡ (hop_at net h).vl) → parent_same_vl net h ≡ true
   unfolding parent_same_vl
   parent_has_vl all =
       of_parent_lem net (λ g. eqb (hop_at net g).vl (hop_at net h).vl) h (λ g e. eq-eqb (hop_at net g).vl (hop_at net h).vl (all g e))
 
-  pub parent_had_vl : (g : ℕ) → parent_same_vl net h ≡ true → parent_at net h ≡ some g → (hop_at net g).vl ≡ (hop_at net h).vl
+  pub parent_had_vl : (g : ℕ) → parent_same_vl net h ≡ true → parent_at net h ≡ Some g → (hop_at net g).vl ≡ (hop_at net h).vl
   unfolding parent_same_vl
   parent_had_vl g t e =
       eqb-true (hop_at net g).vl (hop_at net h).vl (of_parent_was net (λ g. eqb (hop_at net g).vl (hop_at net h).vl) h g t e)
 
-  pub parent_is_lower : ((g : ℕ) → parent_at net h ≡ some g → (hop_at net g).port < (hop_at net h).port) → parent_lower_port net h ≡ true
+  pub parent_is_lower : ((g : ℕ) → parent_at net h ≡ Some g → (hop_at net g).port < (hop_at net h).port) → parent_lower_port net h ≡ true
   unfolding parent_lower_port
   parent_is_lower all =
       of_parent_lem net (λ g. ltb (hop_at net g).port (hop_at net h).port) h (λ g e. lt-ltb (hop_at net g).port (hop_at net h).port (all g e))
 
-  pub parent_was_lower : (g : ℕ) → parent_lower_port net h ≡ true → parent_at net h ≡ some g → (hop_at net g).port < (hop_at net h).port
+  pub parent_was_lower : (g : ℕ) → parent_lower_port net h ≡ true → parent_at net h ≡ Some g → (hop_at net g).port < (hop_at net h).port
   unfolding parent_lower_port
   parent_was_lower g t e =
       ltb-true (hop_at net g).port (hop_at net h).port (of_parent_was net (λ g. ltb (hop_at net g).port (hop_at net h).port) h g t e)

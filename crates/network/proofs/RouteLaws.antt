@@ -6,7 +6,7 @@ use mathlib.Core.Bool.{true, false, true≢false}
 use mathlib.Core.List.Memᴰ
 use mathlib.Core.List.{List, [], ◌∷◌, Memᴰ}
 use mathlib.Core.Logic.{⊎_elim}
-use mathlib.Core.Option.{Option, none, some}
+use Rattle.std.specs.Prelude.{Option, None, Some}
 use mathlib.Core.Path.{◌≡◌, refl, sym, ap, ◌∙◌, subst}
 use native.Mathlib.Decide.{dec_le}
 use native.Mathlib.Omega.{arith}
@@ -20,31 +20,31 @@ use Rattle.network.specs.ReferenceFacts.{References}
 -- ---- any network
 module _ (net : Network) where
   -- a hop without parent is its whole route; any other stands before its parent's
-  pub route_of_root : (n h : ℕ) → parent_at net h ≡ none → route_of net (suc n) h ≡ h ∷ []
+  pub route_of_root : (n h : ℕ) → parent_at net h ≡ None → route_of net (suc n) h ≡ h ∷ []
   unfolding route_of
-  route_of_root n h e = ap (λ (o : Option ℕ). h ∷ elim o [ none ↦ [] | some g ↦ route_of net n g ]) e
+  route_of_root n h e = ap (λ (o : Option ℕ). h ∷ elim o [ None ↦ [] | Some g ↦ route_of net n g ]) e
 
-  pub route_of_child : (n h g : ℕ) → parent_at net h ≡ some g → route_of net (suc n) h ≡ h ∷ route_of net n g
+  pub route_of_child : (n h g : ℕ) → parent_at net h ≡ Some g → route_of net (suc n) h ≡ h ∷ route_of net n g
   unfolding route_of
-  route_of_child n h g e = ap (λ (o : Option ℕ). h ∷ elim o [ none ↦ [] | some i ↦ route_of net n i ]) e
+  route_of_child n h g e = ap (λ (o : Option ℕ). h ∷ elim o [ None ↦ [] | Some i ↦ route_of net n i ]) e
 
-  pub root_not_longer : (n h : ℕ) → parent_at net h ≡ none → route_longer net (suc n) h ≡ false
+  pub root_not_longer : (n h : ℕ) → parent_at net h ≡ None → route_longer net (suc n) h ≡ false
   unfolding route_longer
-  root_not_longer n h e = ap (λ (o : Option ℕ). elim o [ none ↦ false | some g ↦ route_longer net n g ]) e
+  root_not_longer n h e = ap (λ (o : Option ℕ). elim o [ None ↦ false | Some g ↦ route_longer net n g ]) e
 
-  pub child_longer : (n h g : ℕ) → parent_at net h ≡ some g → route_longer net (suc n) h ≡ route_longer net n g
+  pub child_longer : (n h g : ℕ) → parent_at net h ≡ Some g → route_longer net (suc n) h ≡ route_longer net n g
   unfolding route_longer
-  child_longer n h g e = ap (λ (o : Option ℕ). elim o [ none ↦ false | some i ↦ route_longer net n i ]) e
+  child_longer n h g e = ap (λ (o : Option ℕ). elim o [ None ↦ false | Some i ↦ route_longer net n i ]) e
 
   -- what holds of both holds of a route
   pub route_by :
-      (P : List ℕ → Type 0) (n h : ℕ) → (parent_at net h ≡ none → P (h ∷ [])) → ((g : ℕ) → parent_at net h ≡ some g → P (h ∷ route_of net n g))
+      (P : List ℕ → Type 0) (n h : ℕ) → (parent_at net h ≡ None → P (h ∷ [])) → ((g : ℕ) → parent_at net h ≡ Some g → P (h ∷ route_of net n g))
       → P (route_of net (suc n) h)
   route_by P n h root child = go (parent_at net h) refl
     where
       go : (o : Option ℕ) → parent_at net h ≡ o → P (route_of net (suc n) h)
-      go none e = subst P (sym (route_of_root n h e)) (root e)
-      go (some g) e = subst P (sym (route_of_child n h g e)) (child g e)
+      go None e = subst P (sym (route_of_root n h e)) (root e)
+      go (Some g) e = subst P (sym (route_of_child n h g e)) (child g e)
 
   pub route_short : (n h : ℕ) → length (route_of net n h) ≤ n
   unfolding route_of
@@ -62,23 +62,23 @@ module _ (net : Network) where
   not_longer_some zero h e = absurd (true≢false e)
   not_longer_some (suc n) h e = omega arith
 
-  pub route_last : (n h i : ℕ) → route_longer net n h ≡ false → suc i ≡ length (route_of net n h) → parent_at net (get_or (route_of net n h) i 0) ≡ none
+  pub route_last : (n h i : ℕ) → route_longer net n h ≡ false → suc i ≡ length (route_of net n h) → parent_at net (get_or (route_of net n h) i 0) ≡ None
   unfolding route_of route_longer
   route_last zero h i e l = absurd (omega arith)
-  route_last (suc n) h i e l = route_by (λ (r : List ℕ). suc i ≡ length r → parent_at net (get_or r i 0) ≡ none) n h
+  route_last (suc n) h i e l = route_by (λ (r : List ℕ). suc i ≡ length r → parent_at net (get_or r i 0) ≡ None) n h
       (λ k m. root k i m)
       (λ g k m.
       let rest = sym (child_longer n h g k) ∙ e in
       child g (route_some n g (not_longer_some n g rest)) (λ j. route_last n g j rest) i m)
       l
     where
-      root : parent_at net h ≡ none → (i : ℕ) → suc i ≡ 1 → parent_at net (get_or (h ∷ []) i 0) ≡ none
+      root : parent_at net h ≡ None → (i : ℕ) → suc i ≡ 1 → parent_at net (get_or (h ∷ []) i 0) ≡ None
       root k zero m = k
       root k (suc j) m = absurd (omega arith)
 
       child : (g : ℕ) → 0 < length (route_of net n g)
-          → ((j : ℕ) → suc j ≡ length (route_of net n g) → parent_at net (get_or (route_of net n g) j 0) ≡ none)
-          → (i : ℕ) → suc i ≡ suc (length (route_of net n g)) → parent_at net (get_or (h ∷ route_of net n g) i 0) ≡ none
+          → ((j : ℕ) → suc j ≡ length (route_of net n g) → parent_at net (get_or (route_of net n g) j 0) ≡ None)
+          → (i : ℕ) → suc i ≡ suc (length (route_of net n g)) → parent_at net (get_or (h ∷ route_of net n g) i 0) ≡ None
       child g k ih zero m = absurd (omega arith)
       child g k ih (suc j) m = ih j (omega arith)
 
@@ -117,7 +117,7 @@ pub record OnRoute (net : Network) (h g : ℕ) : Type 0 where
 pub record Root (net : Network) (h : ℕ) : Type 0 where
   pub at : ℕ
   pub place : get_or (route_of net 8 h) (length (route_of net 8 h) - 1) 0 ≡ at
-  pub no_parent : parent_at net at ≡ none
+  pub no_parent : parent_at net at ≡ None
   pub on : OnRoute net h at
 
 module _ (net : Network) (refs : References net) where
@@ -132,7 +132,7 @@ module _ (net : Network) (refs : References net) where
       itself : g ≡ h → OnRoute net h g
       itself e = record { row = omega arith; same_vl = rw e; no_later = omega arith; no_higher = rw e (omega arith) }
 
-      above : (f : ℕ) → parent_at net h ≡ some f → OnRoute net f g → OnRoute net h g
+      above : (f : ℕ) → parent_at net h ≡ Some f → OnRoute net f g → OnRoute net h g
       above f k r = record {
         row = r.row;
         same_vl = r.same_vl ∙ refs.parent_vl h f l k;
@@ -146,7 +146,7 @@ module _ (net : Network) (refs : References net) where
     on_route_at i k = on_route 8 h (get_or (route_of net 8 h) i 0) l (member_at (route_of net 8 h) i 0 k)
 
     -- its last hop has no parent
-    pub route_ends : (i : ℕ) → suc i ≡ length (route_of net 8 h) → parent_at net (get_or (route_of net 8 h) i 0) ≡ none
+    pub route_ends : (i : ℕ) → suc i ≡ length (route_of net 8 h) → parent_at net (get_or (route_of net 8 h) i 0) ≡ None
     route_ends i k = route_last net 8 h i (refs.not_deep h l) k
 
     -- for M-111
@@ -161,7 +161,7 @@ module _ (net : Network) (refs : References net) where
     route_whole n k = route_enough net 8 n h (refs.not_deep h l) k
 
     -- a hop and the whole route of its parent
-    pub route_of_parent : (g : ℕ) → parent_at net h ≡ some g → route_of net 8 h ≡ h ∷ route_of net 8 g
+    pub route_of_parent : (g : ℕ) → parent_at net h ≡ Some g → route_of net 8 h ≡ h ∷ route_of net 8 g
     route_of_parent g e =
         let rest = sym (child_longer net 7 h g e) ∙ refs.not_deep h l in
         route_of_child net 7 h g e ∙ ap (λ (r : List ℕ). h ∷ r) (sym (route_enough net 7 8 g rest (omega arith)))

@@ -3,7 +3,7 @@
 use Prim.Native.Nat.{ℕ, suc, ◌<◌}
 use mathlib.Core.Bool.{Bool, true, false, ◌||◌, not}
 use mathlib.Core.List.{List, [], ◌∷◌}
-use mathlib.Core.Option.{none, some, map}
+use Rattle.std.specs.Prelude.{None, Some, option_map}
 use mathlib.Core.Path.{◌≡◌, refl, ap, ◌∙◌}
 use native.Mathlib.Omega.{arith}
 use borrow.Author.Tests.{ne_eqb}
@@ -44,35 +44,35 @@ module _ (net : Network) (i : ℕ) where
   one_sample_is = refl
 
   -- ---- of the parent
-  without_parent : (test : ℕ → Bool) → parent_at net i ≡ none → of_parent net test i ≡ true
+  without_parent : (test : ℕ → Bool) → parent_at net i ≡ None → of_parent net test i ≡ true
   unfolding of_parent
   without_parent test e = rw (e, of_parent)
 
-  with_parent : (test : ℕ → Bool) (g : ℕ) → parent_at net i ≡ some g → of_parent net test i ≡ test g
+  with_parent : (test : ℕ → Bool) (g : ℕ) → parent_at net i ≡ Some g → of_parent net test i ≡ test g
   unfolding of_parent
   with_parent test g e = rw (e, of_parent)
 
-  pub no_parent_earlier : parent_at net i ≡ none → parent_earlier net i ≡ true
+  pub no_parent_earlier : parent_at net i ≡ None → parent_earlier net i ≡ true
   unfolding parent_earlier
   no_parent_earlier e = without_parent (λ g. ltb g i) e
 
-  pub parent_earlier_is : (g : ℕ) → parent_at net i ≡ some g → parent_earlier net i ≡ ltb g i
+  pub parent_earlier_is : (g : ℕ) → parent_at net i ≡ Some g → parent_earlier net i ≡ ltb g i
   unfolding parent_earlier
   parent_earlier_is g e = with_parent (λ g. ltb g i) g e
 
-  pub no_parent_same_vl : parent_at net i ≡ none → parent_same_vl net i ≡ true
+  pub no_parent_same_vl : parent_at net i ≡ None → parent_same_vl net i ≡ true
   unfolding parent_same_vl
   no_parent_same_vl e = without_parent (λ g. eqb (hop_at net g).vl (hop_at net i).vl) e
 
-  pub parent_same_vl_is : (g : ℕ) → parent_at net i ≡ some g → parent_same_vl net i ≡ eqb (hop_at net g).vl (hop_at net i).vl
+  pub parent_same_vl_is : (g : ℕ) → parent_at net i ≡ Some g → parent_same_vl net i ≡ eqb (hop_at net g).vl (hop_at net i).vl
   unfolding parent_same_vl
   parent_same_vl_is g e = with_parent (λ g. eqb (hop_at net g).vl (hop_at net i).vl) g e
 
-  pub no_parent_lower : parent_at net i ≡ none → parent_lower_port net i ≡ true
+  pub no_parent_lower : parent_at net i ≡ None → parent_lower_port net i ≡ true
   unfolding parent_lower_port
   no_parent_lower e = without_parent (λ g. ltb (hop_at net g).port (hop_at net i).port) e
 
-  pub parent_lower_is : (g : ℕ) → parent_at net i ≡ some g → parent_lower_port net i ≡ ltb (hop_at net g).port (hop_at net i).port
+  pub parent_lower_is : (g : ℕ) → parent_at net i ≡ Some g → parent_lower_port net i ≡ ltb (hop_at net g).port (hop_at net i).port
   unfolding parent_lower_port
   parent_lower_is g e = with_parent (λ g. ltb (hop_at net g).port (hop_at net i).port) g e
 
@@ -102,60 +102,60 @@ module _ (net : Network) (i : ℕ) where
   not_too_deep_is = refl
 
 -- ---- the first failing test, one test at a time
-fails_here : (t : Bool) (ts : List Bool) → t ≡ false → first_failing (t ∷ ts) ≡ some 0
+fails_here : (t : Bool) (ts : List Bool) → t ≡ false → first_failing (t ∷ ts) ≡ Some 0
 fails_here t ts e = ap (λ (b : Bool). first_failing (b ∷ ts)) e ∙ first_fails ts
 
-fails_later : (t : Bool) (ts : List Bool) (k : ℕ) → t ≡ true → first_failing ts ≡ some k → first_failing (t ∷ ts) ≡ some (suc k)
-fails_later t ts k e rest = ap (λ (b : Bool). first_failing (b ∷ ts)) e ∙ (first_passes ts ∙ ap (map suc) rest)
+fails_later : (t : Bool) (ts : List Bool) (k : ℕ) → t ≡ true → first_failing ts ≡ Some k → first_failing (t ∷ ts) ≡ Some (suc k)
+fails_later t ts k e rest = ap (λ (b : Bool). first_failing (b ∷ ts)) e ∙ (first_passes ts ∙ ap (option_map suc) rest)
 
 module _ (net : Network) (i : ℕ) where
-  pub vl_fails_0 : names_system net i ≡ false → ref_fault net 2 i ≡ some 0
+  pub vl_fails_0 : names_system net i ≡ false → ref_fault net 2 i ≡ Some 0
   unfolding ref_fault vl_tests
   vl_fails_0 a = fails_here _ _ a
 
-  pub vl_fails_1 : names_system net i ≡ true → has_hop net i ≡ false → ref_fault net 2 i ≡ some 1
+  pub vl_fails_1 : names_system net i ≡ true → has_hop net i ≡ false → ref_fault net 2 i ≡ Some 1
   unfolding ref_fault vl_tests
   vl_fails_1 a b = fails_later _ _ _ a (fails_here _ _ b)
 
-  pub stream_fails_0 : stream_names_vl net i ≡ false → ref_fault net 3 i ≡ some 0
+  pub stream_fails_0 : stream_names_vl net i ≡ false → ref_fault net 3 i ≡ Some 0
   unfolding ref_fault stream_tests
   stream_fails_0 a = fails_here _ _ a
 
-  pub stream_fails_1 : stream_names_vl net i ≡ true → names_sub_link net i ≡ false → ref_fault net 3 i ≡ some 1
+  pub stream_fails_1 : stream_names_vl net i ≡ true → names_sub_link net i ≡ false → ref_fault net 3 i ≡ Some 1
   unfolding ref_fault stream_tests
   stream_fails_1 a b = fails_later _ _ _ a (fails_here _ _ b)
 
-  pub hop_fails_0 : hop_names_vl net i ≡ false → ref_fault net 5 i ≡ some 0
+  pub hop_fails_0 : hop_names_vl net i ≡ false → ref_fault net 5 i ≡ Some 0
   unfolding ref_fault hop_tests
   hop_fails_0 a = fails_here _ _ a
 
-  pub hop_fails_1 : hop_names_vl net i ≡ true → names_port net i ≡ false → ref_fault net 5 i ≡ some 1
+  pub hop_fails_1 : hop_names_vl net i ≡ true → names_port net i ≡ false → ref_fault net 5 i ≡ Some 1
   unfolding ref_fault hop_tests
   hop_fails_1 a b = fails_later _ _ _ a (fails_here _ _ b)
 
   module _ (vl : hop_names_vl net i ≡ true) (port : names_port net i ≡ true) where
-    pub hop_fails_2 : parent_earlier net i ≡ false → ref_fault net 5 i ≡ some 2
+    pub hop_fails_2 : parent_earlier net i ≡ false → ref_fault net 5 i ≡ Some 2
     unfolding ref_fault hop_tests
     hop_fails_2 a = fails_later _ _ _ vl (fails_later _ _ _ port (fails_here _ _ a))
 
     module _ (earlier : parent_earlier net i ≡ true) where
-      pub hop_fails_3 : parent_same_vl net i ≡ false → ref_fault net 5 i ≡ some 3
+      pub hop_fails_3 : parent_same_vl net i ≡ false → ref_fault net 5 i ≡ Some 3
       unfolding ref_fault hop_tests
       hop_fails_3 a = fails_later _ _ _ vl (fails_later _ _ _ port (fails_later _ _ _ earlier (fails_here _ _ a)))
 
       module _ (same_vl : parent_same_vl net i ≡ true) where
-        pub hop_fails_4 : parent_lower_port net i ≡ false → ref_fault net 5 i ≡ some 4
+        pub hop_fails_4 : parent_lower_port net i ≡ false → ref_fault net 5 i ≡ Some 4
         unfolding ref_fault hop_tests
         hop_fails_4 a = fails_later _ _ _ vl (fails_later _ _ _ port (fails_later _ _ _ earlier (fails_later _ _ _ same_vl (fails_here _ _ a))))
 
         module _ (lower : parent_lower_port net i ≡ true) where
-          pub hop_fails_5 : no_earlier_twin net i ≡ false → ref_fault net 5 i ≡ some 5
+          pub hop_fails_5 : no_earlier_twin net i ≡ false → ref_fault net 5 i ≡ Some 5
           unfolding ref_fault hop_tests
           hop_fails_5 a =
               fails_later _ _ _ vl
               (fails_later _ _ _ port (fails_later _ _ _ earlier (fails_later _ _ _ same_vl (fails_later _ _ _ lower (fails_here _ _ a)))))
 
-          pub hop_fails_6 : no_earlier_twin net i ≡ true → not_too_deep net i ≡ false → ref_fault net 5 i ≡ some 6
+          pub hop_fails_6 : no_earlier_twin net i ≡ true → not_too_deep net i ≡ false → ref_fault net 5 i ≡ Some 6
           unfolding ref_fault hop_tests
           hop_fails_6 twin a =
               fails_later _ _ _ vl

@@ -1,21 +1,13 @@
 -- A network as a value: what a packed table says once it is decoded. Every time is in ticks, by the rules of the tick that it carries; rows
 -- are numbered from 0; there are no bytes here. Its records are those that the code declares (src/). Table, rows and the tick machine all
 -- speak of this one. Assumes nothing.
-use Rattle.std.specs.Prelude.{ℕ, false, List, get_or}
-use Rattle.std.proofs.Math.Option.{Option, none, some}
+use Rattle.std.specs.Prelude.{ℕ, false, List, get_or, Option, None}
 use Rattle.frame.specs.Tick.{TickRules}
 use Rattle.network.specs.declared.EndSystem.{EndSystem}
 use Rattle.network.specs.declared.Vl.{Vl}
 use Rattle.network.specs.declared.Stream.{Stream}
 use Rattle.network.specs.declared.Port.{Port}
 use Rattle.network.specs.declared.Hop.{Hop}
-use Rattle.network.specs.declared.Parent.{Parent}
-use Rattle.network.specs.declared.Parent.TheVariants.{Root, After}
-
--- what comes before a hop is its parent's row, if it has one
-abbrev pub parent_in : Parent → Option ℕ
-parent_in Root = none
-parent_in (After g) = some g
 
 pub record Network : Type 0 where
   pub tick : TickRules
@@ -43,7 +35,7 @@ abbrev pub no_port : Port
 no_port = record { perbyte = 0; least = 0; greatest = 0 }
 
 abbrev pub no_hop : Hop
-no_hop = record { vl = 0; port = 0; parent = Root }
+no_hop = record { vl = 0; port = 0; parent = None }
 
 abbrev pub system_at : Network → ℕ → EndSystem
 system_at net i = get_or net.systems i no_system
@@ -62,4 +54,4 @@ hop_at net i = get_or net.hops i no_hop
 
 -- the row of a hop's parent
 abbrev pub parent_at : Network → ℕ → Option ℕ
-parent_at net i = parent_in (hop_at net i).parent
+parent_at net i = (hop_at net i).parent

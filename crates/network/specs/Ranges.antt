@@ -1,7 +1,6 @@
 -- 01's ranges as plain facts of a network: what every number of an accepted table's network keeps to, in ticks and bytes. (That each
 -- reference is good is `References`.) No demand is stated by them; proofs above stand on them. Assumes nothing.
-use Rattle.std.specs.Prelude.{ℕ, ◌≤◌, ◌<◌, ◌⊎◌, ◌≡◌, length}
-use Rattle.std.proofs.Math.Option.{some}
+use Rattle.std.specs.Prelude.{ℕ, ◌≤◌, ◌<◌, ◌⊎◌, ◌≡◌, length, Some}
 use Rattle.frame.specs.Gap.{gap_of}
 use Rattle.frame.specs.Tick.{in_force}
 use Rattle.layout.specs.Limits.{limits}
@@ -17,7 +16,7 @@ SpeedRange perbyte = (perbyte ≡ 1) ⊎ (perbyte ≡ 10)
 -- a gap of the table of gaps, one to four sub-links, "Lmax 64 to 1,518"
 pub record VlRange (vl : Vl) : Type 0 where
   pub code : ℕ
-  pub gap : gap_of code ≡ some vl.gap
+  pub gap : gap_of code ≡ Some vl.gap
   pub gap_least : 12500 ≤ vl.gap
   pub gap_greatest : vl.gap ≤ 1600000
   pub sub_links_least : 1 ≤ vl.sublinks

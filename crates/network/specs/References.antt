@@ -1,7 +1,6 @@
 -- 01, Answers 5 and 6: the named tests of a network's references, in 01's order, and the sampling rule.
 -- Assumes nothing.
-use Rattle.std.specs.Prelude.{ℕ, zero, suc, Bool, true, false, ◌&&◌, ◌||◌, not, List, [], ◌∷◌, leb, ltb, eqb, length, get_or}
-use Rattle.std.proofs.Math.Option.{Option, none, some}
+use Rattle.std.specs.Prelude.{ℕ, zero, suc, Bool, true, false, ◌&&◌, ◌||◌, not, List, [], ◌∷◌, leb, ltb, eqb, length, get_or, Option, None, Some}
 use Rattle.base.specs.Least.{least_from}
 use Rattle.base.specs.Tests.{is_some, first_failing}
 use Rattle.frame.specs.Packets.{packets}
@@ -31,7 +30,7 @@ names_port net h = ltb (hop_at net h).port (length net.ports)
 
 -- a test of the parent passes where there is none
 unfoldable pub of_parent : Network → (ℕ → Bool) → ℕ → Bool
-of_parent net test h = elim (parent_at net h) [ none ↦ true | some g ↦ test g ]
+of_parent net test h = elim (parent_at net h) [ None ↦ true | Some g ↦ test g ]
 
 unfoldable pub parent_earlier : Network → ℕ → Bool
 parent_earlier net h = of_parent net (λ g. ltb g h) h
@@ -52,7 +51,7 @@ no_earlier_twin net h = not (is_some (least_from (twin_of net h) 0 h))
 -- the route of a hop, which is the hop, its parent, the parent's parent and so on, has more than n hops
 unfoldable pub route_longer : Network → ℕ → ℕ → Bool
 route_longer net zero h = true
-route_longer net (suc n) h = elim (parent_at net h) [ none ↦ false | some g ↦ route_longer net n g ]
+route_longer net (suc n) h = elim (parent_at net h) [ None ↦ false | Some g ↦ route_longer net n g ]
 
 -- "routes 8 hops deep"
 unfoldable pub not_too_deep : Network → ℕ → Bool

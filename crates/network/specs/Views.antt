@@ -1,7 +1,6 @@
 -- What is read off a network again and again: the VLs of an end system, the streams of a sub-link, the hops of a port and of a
 -- route, the destinations of a VL. Figures and tick machine both speak of these. Assumes nothing.
-use Rattle.std.specs.Prelude.{ℕ, zero, suc, Bool, false, ◌&&◌, not, List, [], ◌∷◌, eqb, length}
-use Rattle.std.proofs.Math.Option.{Option, none, some}
+use Rattle.std.specs.Prelude.{ℕ, zero, suc, Bool, false, ◌&&◌, not, List, [], ◌∷◌, eqb, length, Option, None, Some}
 use Rattle.base.specs.Least.{least_from}
 use Rattle.base.specs.Tabulate.{passing}
 use Rattle.base.specs.Tests.{is_some}
@@ -21,8 +20,8 @@ hops_on net p = passing (λ h. eqb (hop_at net h).port p) (length net.hops)
 
 -- whether hop h is the parent
 unfoldable pub is_parent : ℕ → Option ℕ → Bool
-is_parent h none = false
-is_parent h (some g) = eqb g h
+is_parent h None = false
+is_parent h (Some g) = eqb g h
 
 -- a hop that is nobody's parent
 unfoldable pub leaf : Network → ℕ → Bool
@@ -35,7 +34,7 @@ leaves_of net v = passing (λ h. eqb (hop_at net h).vl v && leaf net h) (length 
 -- the hop, its parent, the parent's parent and so on, n hops at most
 unfoldable pub route_of : Network → ℕ → ℕ → List ℕ
 route_of net zero h = []
-route_of net (suc n) h = h ∷ elim (parent_at net h) [ none ↦ [] | some g ↦ route_of net n g ]
+route_of net (suc n) h = h ∷ elim (parent_at net h) [ None ↦ [] | Some g ↦ route_of net n g ]
 
 -- the route of a hop, "routes 8 hops deep": it is whole where no reference is bad
 unfoldable pub route : Network → ℕ → List ℕ

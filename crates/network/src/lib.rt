@@ -37,17 +37,10 @@ pub struct Port {
     pub greatest: u64,
 }
 
-// What comes before a hop: its parent's row, where it has one.
-#[derive(Clone, Copy)]
-pub enum Parent {
-    Root,
-    After(usize),
-}
-
-// A hop: one VL at one port, after the hop that is its parent, if it has one.
+// A hop: one VL at one port, and the row of the hop that is its parent, if it has one.
 #[derive(Clone, Copy)]
 pub struct Hop {
     pub vl: usize,
     pub port: usize,
-    pub parent: Parent,
+    pub parent: Option<usize>,
 }

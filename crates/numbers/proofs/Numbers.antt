@@ -3,7 +3,7 @@
 use Prim.Native.Nat.{ℕ, zero, suc, ◌-◌, ◌≤◌, ◌<◌}
 use mathlib.Core.Bool.{true, false, not}
 use mathlib.Core.List.{List, [], ◌∷◌}
-use mathlib.Core.Option.{none, some}
+use Rattle.std.specs.Prelude.{None, Some}
 use mathlib.Core.Path.{◌≡◌, refl, sym}
 use native.Mathlib.Omega.{arith}
 use Rattle.base.specs.Least.{least_from}
@@ -35,7 +35,7 @@ use Rattle.numbers.specs.Numbers.{queue_net, stream, port_net, refused_at, unles
 -- ---- from what the station says of the flows to what is said of the queue or the port
 module _ (fs : List Flow) (ok : offered fs ≡ true) where
   module _ {l v : ℕ} (e : station_says fs ≡ accepted (l ∷ v ∷ [])) where
-    found : (busy_length fs ≡ some l) × (v ≡ figure fs l)
+    found : (busy_length fs ≡ Some l) × (v ≡ figure fs l)
     unfolding said
     found = served_was fs ok l v (sym e)
 
@@ -51,7 +51,7 @@ module _ (fs : List Flow) (ok : offered fs ≡ true) where
         has_length (suc zero) h = rw (queue_length_is (queue_net n streams) refl 0 1, second, no_flows.0)
         has_length (suc (suc k)) h = absurd (omega arith)
 
-        no_endless : least_from (λ k. not (is_some (queue_length (queue_net n streams) 0 k))) 0 n ≡ none
+        no_endless : least_from (λ k. not (is_some (queue_length (queue_net n streams) 0 k))) 0 n ≡ None
         no_endless = least_none _ 0 n (λ k a b. has_length k (omega arith))
 
     port_served : (jitter : ℕ → ℕ) → port_flows port_net jitter 0 ≡ fs → port_says port_net jitter 0 ≡ accepted (l ∷ v ∷ [])

@@ -1,8 +1,7 @@
 -- 01, Numbers to hold against: "Marked * are proved of the rules themselves, as one checked list under a single statement."
 -- Each is said of 01's own rule: 1 and 2 of the frame rule; of small networks 3 to 7 of the queue figure and answer 9, 8 of the port, 9 of
 -- answer 7. Assumes nothing.
-use Rattle.std.specs.Prelude.{ℕ, ◌-◌, false, List, [], ◌∷◌, map, ◌≡◌, length}
-use Rattle.std.proofs.Math.Option.{Option, none, some}
+use Rattle.std.specs.Prelude.{ℕ, ◌-◌, false, List, [], ◌∷◌, map, ◌≡◌, length, Option, None, Some}
 use Rattle.base.specs.Said.{Said, accepted, refused, ruled}
 use Rattle.base.specs.Tabulate.{tabulate}
 use Rattle.base.specs.Tests.{number_or0}
@@ -12,7 +11,6 @@ use Rattle.frame.specs.Packets.{udp_header, carried}
 use Rattle.frame.specs.Offered.{packets_of}
 use Rattle.frame.specs.Tick.{per_byte, in_force}
 use Rattle.network.specs.declared.Stream.{Stream}
-use Rattle.network.specs.declared.Parent.TheVariants.{Root}
 use Rattle.network.specs.Network.{Network}
 use Rattle.rows.specs.Links.{send_sum}
 use Rattle.rows.specs.Queues.{queue_length, queue_figure}
@@ -33,7 +31,7 @@ small n lmaxes streams = record {
   vls = map (λ lmax. record { system = 0; gap = 12500; sublinks = n; lmax = lmax }) lmaxes;
   streams = streams;
   ports = record { perbyte = per_byte Mbit100; least = 0; greatest = 0 } ∷ [];
-  hops = tabulate (λ v. record { vl = v; port = 0; parent = Root }) (length lmaxes);
+  hops = tabulate (λ v. record { vl = v; port = 0; parent = None }) (length lmaxes);
 }
 
 -- for 3 to 7: one VL, of Lmax 1,518, with n sub-links
@@ -61,8 +59,8 @@ refused_at number section row = record { number = number; section = section; row
 
 -- the refusal where there is a row for it, and else the values
 unfoldable pub unless : ℕ → ℕ → Option ℕ → List ℕ → Said
-unless number section none values = accepted values
-unless number section (some row) values = refused_at number section row
+unless number section None values = accepted values
+unless number section (Some row) values = refused_at number section row
 
 -- answer 9 ("2, VL"), or L and queue of sub-link k of VL v
 unfoldable pub queue_says : Network → ℕ → ℕ → Said
@@ -71,8 +69,8 @@ queue_says net v k = unless 9 2 (endless_vl net) (number_or0 (queue_length net v
 -- answer 10 ("4, port"), or L and figure of port p, where the hops have these jitters
 unfoldable pub port_says : Network → (ℕ → ℕ) → ℕ → Said
 port_says net jitter p = elim (port_length net jitter p) [
-  | none ↦ refused_at 10 4 p
-  | some l ↦ accepted (l ∷ port_figure net jitter p ∷ [])
+  | None ↦ refused_at 10 4 p
+  | Some l ↦ accepted (l ∷ port_figure net jitter p ∷ [])
 ]
 
 -- answer 7 ("1, end system"), or that it is passed

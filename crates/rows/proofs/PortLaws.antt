@@ -2,7 +2,7 @@
 -- Assumes nothing.
 use Prim.Native.Nat.{ℕ, zero, suc, ◌≤◌, ◌<◌}
 use mathlib.Core.List.{List, [], ◌∷◌, map, Memᴰ}
-use mathlib.Core.Option.{Option, none, some}
+use Rattle.std.specs.Prelude.{Option, None, Some}
 use mathlib.Core.Path.{◌≡◌, refl, sym, ap, ap₂, ◌∙◌}
 use native.Mathlib.Nat.{le_refl}
 use native.Mathlib.Omega.{arith}
@@ -48,24 +48,24 @@ module _ (net : Network) where
   hop_figure_same i j g same = port_figure_same i j (hop_at net g).port same
 
   -- the rules for one hop, of a solution's step
-  jitter_root : (n h : ℕ) → parent_at net h ≡ none → jitter_below net (suc n) h ≡ root_jitter net h
+  jitter_root : (n h : ℕ) → parent_at net h ≡ None → jitter_below net (suc n) h ≡ root_jitter net h
   unfolding jitter_below
   jitter_root n h e = ap (λ (o : Option ℕ). elim o [
-    | none ↦ root_jitter net h
-    | some g ↦ child_jitter net h g (jitter_below net n g) (hop_figure net (jitter_below net n) g)
+    | None ↦ root_jitter net h
+    | Some g ↦ child_jitter net h g (jitter_below net n g) (hop_figure net (jitter_below net n) g)
   ]) e
 
   jitter_child :
-      (n h g : ℕ) → parent_at net h ≡ some g
+      (n h g : ℕ) → parent_at net h ≡ Some g
       → jitter_below net (suc n) h ≡ child_jitter net h g (jitter_below net n g) (hop_figure net (jitter_below net n) g)
   unfolding jitter_below
   jitter_child n h g e = ap (λ (o : Option ℕ). elim o [
-    | none ↦ root_jitter net h
-    | some g ↦ child_jitter net h g (jitter_below net n g) (hop_figure net (jitter_below net n) g)
+    | None ↦ root_jitter net h
+    | Some g ↦ child_jitter net h g (jitter_below net n g) (hop_figure net (jitter_below net n) g)
   ]) e
 
   module _ (refs : References net) where
-    row_of_parent : (h g : ℕ) → h < length net.hops → parent_at net h ≡ some g → g < length net.hops
+    row_of_parent : (h g : ℕ) → h < length net.hops → parent_at net h ≡ Some g → g < length net.hops
     row_of_parent h g l e = omega (arith, refs.parent_earlier_says h g l e)
 
     -- once the hop's port is below n, more ports change nothing
@@ -76,8 +76,8 @@ module _ (net : Network) where
       where
         go : ((g : ℕ) → g < length net.hops → (hop_at net g).port < n → n ≤ m → jitter_below net n g ≡ jitter_below net m g)
             → (o : Option ℕ) → parent_at net h ≡ o → jitter_below net (suc n) h ≡ jitter_below net (suc m) h
-        go ih none e = jitter_root n h e ∙ sym (jitter_root m h e)
-        go ih (some g) e =
+        go ih None e = jitter_root n h e ∙ sym (jitter_root m h e)
+        go ih (Some g) e =
             let row = row_of_parent h g l e in
             let low = refs.parent_port h g l e in
             jitter_child n h g e
@@ -90,12 +90,12 @@ module _ (net : Network) where
     unfolding figure_of jitter_of
     figures_of = record { figure_is = λ h l. refl; root_is = λ h l e. root (length net.ports) h e (refs.hop_port h l); child_is = λ h g l e. child (length net.ports) h g l e (refs.hop_port h l) }
       where
-        root : (n h : ℕ) → parent_at net h ≡ none → (hop_at net h).port < n → jitter_below net n h ≡ root_jitter net h
+        root : (n h : ℕ) → parent_at net h ≡ None → (hop_at net h).port < n → jitter_below net n h ≡ root_jitter net h
         root zero h e k = absurd (omega arith)
         root (suc n) h e k = jitter_root n h e
 
         child :
-            (n h g : ℕ) → h < length net.hops → parent_at net h ≡ some g → (hop_at net h).port < n
+            (n h g : ℕ) → h < length net.hops → parent_at net h ≡ Some g → (hop_at net h).port < n
             → jitter_below net n h ≡ child_jitter net h g (jitter_below net n g) (hop_figure net (jitter_below net n) g)
         child zero h g l e k = absurd (omega arith)
         child (suc n) h g l e k =
@@ -112,8 +112,8 @@ module _ (net : Network) where
       same_below (suc n) h l k = go (λ g. same_below n g) (parent_at net h) refl
         where
           go : ((g : ℕ) → g < length net.hops → (hop_at net g).port < n → j₁ g ≡ j₂ g) → (o : Option ℕ) → parent_at net h ≡ o → j₁ h ≡ j₂ h
-          go ih none e = one.root_is h l e ∙ sym (two.root_is h l e)
-          go ih (some g) e =
+          go ih None e = one.root_is h l e ∙ sym (two.root_is h l e)
+          go ih (Some g) e =
               let row = row_of_parent h g l e in
               let low = refs.parent_port h g l e in
               one.child_is h g l e

@@ -1,7 +1,6 @@
 -- 01, Port: "one flow for each hop on it, T = BAG, C = (20 + Lmax) × ticks per byte of the port", and the jitters of hops, as
 -- equations on the figures and jitters of the hops. Assumes nothing.
-use Rattle.std.specs.Prelude.{ℕ, zero, suc, ◌+◌, ◌-◌, ◌<◌, List, map, ◌≡◌, length}
-use Rattle.std.proofs.Math.Option.{Option, none, some}
+use Rattle.std.specs.Prelude.{ℕ, zero, suc, ◌+◌, ◌-◌, ◌<◌, List, map, ◌≡◌, length, Option, None, Some}
 use Rattle.base.specs.Tests.{number_or0}
 use Rattle.network.specs.Network.{Network, vl_at, hop_at, parent_at}
 use Rattle.network.specs.Views.{hops_on}
@@ -36,16 +35,16 @@ child_jitter net h g parentJitter parentFigure = parentJitter + (parentFigure - 
 -- figures and jitters of the hops that keep these rules
 pub record Figures (net : Network) (figure_at jitter_at : ℕ → ℕ) : Type 0 where
   pub figure_is : (h : ℕ) → h < length net.hops → figure_at h ≡ hop_figure net jitter_at h
-  pub root_is : (h : ℕ) → h < length net.hops → parent_at net h ≡ none → jitter_at h ≡ root_jitter net h
-  pub child_is : (h g : ℕ) → h < length net.hops → parent_at net h ≡ some g
+  pub root_is : (h : ℕ) → h < length net.hops → parent_at net h ≡ None → jitter_at h ≡ root_jitter net h
+  pub child_is : (h g : ℕ) → h < length net.hops → parent_at net h ≡ Some g
       → jitter_at h ≡ child_jitter net h g (jitter_at g) (figure_at g)
 
 -- the one solution, for parents on lower-numbered ports: what the hops on ports below n have
 unfoldable pub jitter_below : Network → ℕ → ℕ → ℕ
 jitter_below net zero h = 0
 jitter_below net (suc n) h = elim (parent_at net h) [
-  | none ↦ root_jitter net h
-  | some g ↦ child_jitter net h g (jitter_below net n g) (hop_figure net (jitter_below net n) g)
+  | None ↦ root_jitter net h
+  | Some g ↦ child_jitter net h g (jitter_below net n g) (hop_figure net (jitter_below net n) g)
 ]
 
 unfoldable pub jitter_of : Network → ℕ → ℕ

@@ -1,7 +1,6 @@
 -- 01, Queue figure of a sub-link with a stream: "flows are its streams, J raised by (greatest − least send delay),
 -- C = p × n × BAG where n is the VL's number of sub-links; the station figure less one BAG." Assumes nothing.
-use Rattle.std.specs.Prelude.{ℕ, ◌+◌, ◌-◌, ◌*◌, List, map}
-use Rattle.std.proofs.Math.Option.{Option}
+use Rattle.std.specs.Prelude.{ℕ, ◌+◌, ◌-◌, ◌*◌, List, map, Option}
 use Rattle.base.specs.Tests.{number_or0}
 use Rattle.frame.specs.Packets.{packets}
 use Rattle.network.specs.Network.{Network, vl_at, stream_at}

@@ -1,7 +1,6 @@
 -- 01, Answers 7 to 10, as facts of a network: the first row that each is given at, if there is one.
 -- Assumes nothing.
-use Rattle.std.specs.Prelude.{ℕ, ◌*◌, Bool, not, ltb, length}
-use Rattle.std.proofs.Math.Option.{Option}
+use Rattle.std.specs.Prelude.{ℕ, ◌*◌, Bool, not, ltb, length, Option}
 use Rattle.base.specs.Least.{least_from}
 use Rattle.base.specs.Tests.{is_some}
 use Rattle.frame.specs.Tick.{in_time}

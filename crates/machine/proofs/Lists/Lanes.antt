@@ -5,7 +5,8 @@ use mathlib.Core.List.{List, [], ◌∷◌, ◌++◌, append_assoc, append-nil, 
 use mathlib.Core.List.Permᴰ
 use mathlib.Core.List.{Permᴰ}
 use mathlib.Core.Logic.{⊎_elim}
-use mathlib.Core.Option.{Option, none, some, none-ne-some}
+use Rattle.std.specs.Prelude.{Option, None, Some}
+use Rattle.std.proofs.lemmas.Option.{none-some}
 use mathlib.Core.Path.{◌≡◌, refl, sym, ap, ◌∙◌}
 use Rattle.machine.specs.Sum.{weigh}
 use Rattle.machine.specs.Lists.{gather}
@@ -15,8 +16,8 @@ use Rattle.machine.proofs.Lists.Orders.{perm_between, perm_mem, perm_weigh, is_g
 
 -- what is got, as a list
 abbrev pub listed : {X : Type 0} → Option X → List X
-listed none = []
-listed (some x) = x ∷ []
+listed None = []
+listed (Some x) = x ∷ []
 
 module _ {X : Type 0} where
   abbrev pub flat : List (Lane X) → List X
@@ -72,8 +73,8 @@ module _ {X : Type 0} where
       (turn ls)
 
   -- it takes none only if there is none
-  pub none_waits : (ls : List (Lane X)) → (serve [] ls).got ≡ none → flat (serve [] ls).lanes ≡ []
-  none_waits ls e = ⊎_elim (λ k. absurd (none-ne-some k.head (sym e ∙ k.got))) (λ k. rw k.now (flat_empty ls k.empty))
+  pub none_waits : (ls : List (Lane X)) → (serve [] ls).got ≡ None → flat (serve [] ls).lanes ≡ []
+  none_waits ls e = ⊎_elim (λ k. absurd (none-some k.head (sym e ∙ k.got))) (λ k. rw k.now (flat_empty ls k.empty))
       (turn ls)
 
   -- ---- lanes tick by tick, each with its name: what a tick brings to them, `new t i` to the lane named i

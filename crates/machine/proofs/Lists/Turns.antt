@@ -3,7 +3,7 @@
 use Prim.Native.Nat.{ℕ, suc, ◌+◌}
 use mathlib.Core.List.{List, [], ◌∷◌, ◌++◌, append_assoc, append-nil}
 use mathlib.Core.Logic.{◌⊎◌, inl, inr}
-use mathlib.Core.Option.{none, some}
+use Rattle.std.specs.Prelude.{None, Some}
 use mathlib.Core.Path.{◌≡◌, refl, sym, ap, subst}
 use native.Mathlib.Omega.{arith}
 use lib.ListN.{length, length-append}
@@ -26,12 +26,12 @@ module _ {X : Type 0} where
     pub rest : List X
     pub passed : Empty before
     pub was : ls ≡ before ++ (record { name = name; line = head ∷ rest } ∷ after)
-    pub got : r.got ≡ some head
+    pub got : r.got ≡ Some head
     pub now : r.lanes ≡ after ++ (before ++ (record { name = name; line = rest } ∷ []))
 
   pub record Rested (ls : List (Lane X)) (r : Served X) : Type 0 where
     pub empty : Empty ls
-    pub got : r.got ≡ none
+    pub got : r.got ≡ None
     pub now : r.lanes ≡ ls
 
   turn_of_lem : (b ls : List (Lane X)) → Empty b → Took (b ++ ls) (serve b ls) ⊎ Rested (b ++ ls) (serve b ls)
@@ -39,7 +39,7 @@ module _ {X : Type 0} where
   turn_of_lem b (l ∷ ls) h = go (λ k. turn_of_lem (b ++ (l ∷ [])) ls k) l.line refl
     where
       R : List X → Served X
-      R m = elim m [ [] ↦ serve (b ++ (l ∷ [])) ls | x ∷ xs ↦ record { got = some x; lanes = ls ++ (b ++ (record { name = l.name; line = xs } ∷ [])) } ]
+      R m = elim m [ [] ↦ serve (b ++ (l ∷ [])) ls | x ∷ xs ↦ record { got = Some x; lanes = ls ++ (b ++ (record { name = l.name; line = xs } ∷ [])) } ]
 
       go : (Empty (b ++ (l ∷ [])) → Took ((b ++ (l ∷ [])) ++ ls) (serve (b ++ (l ∷ [])) ls) ⊎ Rested ((b ++ (l ∷ [])) ++ ls) (serve (b ++ (l ∷ [])) ls)) → (m : List X) → l.line ≡ m → Took (b ++ (l ∷ ls)) (R m) ⊎ Rested (b ++ (l ∷ ls)) (R m)
       go rec [] e = subst (λ (k : List (Lane X)). Took k (serve (b ++ (l ∷ [])) ls) ⊎ Rested k (serve (b ++ (l ∷ [])) ls)) (append_assoc b (l ∷ []) ls)

@@ -3,7 +3,7 @@
 use Prim.Native.Nat.{ℕ, zero, suc, ◌*◌, ◌≤◌, ◌<◌, max}
 use mathlib.Core.Bool.{cond, Bool}
 use mathlib.Core.List.{List, [], ◌∷◌, Memᴰ, Permᴰ}
-use mathlib.Core.Option.{Option}
+use Rattle.std.specs.Prelude.{Option}
 use mathlib.Core.Path.{◌≡◌, refl, sym, ap, ◌∙◌, subst, subst₂}
 use native.Mathlib.Nat.{le_refl, le_trans, mul-le-mul_right, div-eq_of_lt}
 use native.Mathlib.Omega.{arith}

@@ -4,7 +4,7 @@ use Prim.Native.Nat.{ℕ, zero, suc, ◌+◌, ◌-◌, ◌≤◌, ◌<◌}
 use mathlib.Core.Bool.{Bool, true, cond}
 use mathlib.Core.List.Permᴰ
 use mathlib.Core.List.{List, [], Memᴰ}
-use mathlib.Core.Option.{Option, none, some}
+use Rattle.std.specs.Prelude.{Option, None, Some}
 use mathlib.Core.Path.{◌≡◌, refl, sym, ap, ◌∙◌, subst}
 use native.Mathlib.Nat.{le_refl, le_of_eq, add-zero}
 use native.Mathlib.Omega.{arith}
@@ -148,13 +148,13 @@ module _ (net : Network) (sound : Sound net) (r : Run) (per : Permitted net r) (
   reach_hop p below h hh e = go (parent_at net h) refl
     where
       go : (o : Option ℕ) → parent_at net h ≡ o → Delay (hand net r (hop_at net h).vl) (into net r h) (win.soon h) (win.late h)
-      go none k =
+      go None k =
           let s = win.soon_is h hh ∙ ap (soon_by net win.soon h) k in
           let l = win.late_is h hh ∙ ap (late_by net win.late h) k in
           looser (le_of_eq s) (le_of_eq (sym l))
           (delay_same (λ t. refl) (λ t. ap (sets_from net t (ch net r t) (st net r t) (hop_at net h).vl) (sym k)) (end_delay net sound r per win (hop_at net h).vl (sound.references.hop_vl h hh))
           then flight h hh)
-      go (some g) k =
+      go (Some g) k =
           let refs = sound.references in
           let s = win.soon_is h hh ∙ ap (soon_by net win.soon h) k in
           let l = win.late_is h hh ∙ ap (late_by net win.late h) k in

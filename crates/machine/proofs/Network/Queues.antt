@@ -3,7 +3,7 @@
 use Prim.Native.Nat.{ℕ, suc, ◌+◌, ◌*◌, ◌/◌, ◌≤◌, ◌<◌}
 use mathlib.Core.Bool.{Bool, true, cond, ◌&&◌}
 use mathlib.Core.List.{List, [], ◌∷◌, Memᴰ}
-use mathlib.Core.Option.{Option, none, some}
+use Rattle.std.specs.Prelude.{Option, None, Some}
 use mathlib.Core.Path.{◌≡◌, refl, sym, ap, ◌∙◌, subst, fun_ext}
 use native.Mathlib.Nat.{le_of_eq, le_trans, mul-le-mul_right}
 use native.Mathlib.Omega.{arith}
@@ -147,11 +147,11 @@ module _ (net : Network) (sound : Sound net) (r : Run) (per : Permitted net r) w
         (turn_mem (r.first_sub v) i (passing (λ i. true) n) (is_passing (λ i. true) n i h tt))
 
     -- ---- in frames
-    was_framed : (t : ℕ) (o : Option Packet) (f : Frame) → Memᴰ f (framed v t o) → (o ≡ some f.packet) × (f.vl ≡ v) × (f.born ≡ t)
-    was_framed t none f k = absurd (mathlib.Core.List.Memᴰ.not-nil k)
-    was_framed t (some x) f k =
+    was_framed : (t : ℕ) (o : Option Packet) (f : Frame) → Memᴰ f (framed v t o) → (o ≡ Some f.packet) × (f.vl ≡ v) × (f.born ≡ t)
+    was_framed t None f k = absurd (mathlib.Core.List.Memᴰ.not-nil k)
+    was_framed t (Some x) f k =
         let e = mathlib.Core.List.Memᴰ.eq_of_singleton k in
-        (ap (λ (z : Frame). some z.packet) (sym e), ap (λ (z : Frame). z.vl) e, ap (λ (z : Frame). z.born) e)
+        (ap (λ (z : Frame). Some z.packet) (sym e), ap (λ (z : Frame). z.vl) e, ap (λ (z : Frame). z.born) e)
 
     pub hand_vl : (t : ℕ) (f : Frame) → Memᴰ f (hand net r v t) → v < length net.vls
     hand_vl t f k =
@@ -186,11 +186,11 @@ module _ (net : Network) (sound : Sound net) (r : Run) (per : Permitted net r) w
       brought_low : (t i : ℕ) → Low n gap by from t (news net r v t i)
       brought_low t i = low_lane i (ch net r t).reach t (λ m k. le_of_eq (reach_at net sound r per t m k).0)
 
-      pub bounds : (t : ℕ) (x : Packet) → handed gap s₀ (news net r v) t ≡ some x → (t + gap ≤ by x) × (from x ≤ t)
+      pub bounds : (t : ℕ) (x : Packet) → handed gap s₀ (news net r v) t ≡ Some x → (t + gap ≤ by x) × (from x ≤ t)
       bounds = hand_bounds n gap by from (queue_station net v) (news net r v)
           (λ i t. lane_finish v i hv win t) brought_soon brought_low pos s₀ size₀ empty₀ refl
 
-      goes : (i : ℕ) → i < n → (t : ℕ) (x : Packet) → Memᴰ x (news net r v t i) → (u : ℕ) × (handed gap s₀ (news net r v) u ≡ some x)
+      goes : (i : ℕ) → i < n → (t : ℕ) (x : Packet) → Memᴰ x (news net r v t i) → (u : ℕ) × (handed gap s₀ (news net r v) u ≡ Some x)
       goes i h t x k = forward n gap by from (queue_station net v) (news net r v)
           (λ i t. lane_finish v i hv win t) brought_soon brought_low pos s₀ size₀ empty₀ refl i (named₀ i h) t x k
 
@@ -235,8 +235,8 @@ module _ (net : Network) (sound : Sound net) (r : Run) (per : Permitted net r) w
       hand_rate x d = simp (same) (hand_count gap s₀ (news net r v) refl pos x d)
         where
           one : (t : ℕ) (o : Option Packet) → count any (framed v t o) ≡ tally_of o
-          one t none = refl
-          one t (some y) = refl
+          one t None = refl
+          one t (Some y) = refl
 
           same : (t : ℕ) → count any (hand net r v t) ≡ tally_of (handed gap s₀ (news net r v) t)
           same t = rw (hand_is net r v t) (one t (handed gap s₀ (news net r v) t))

@@ -2,7 +2,7 @@
 -- Assumes nothing.
 use Prim.Native.Nat.{ℕ, zero, suc, ◌+◌, ◌<◌}
 use mathlib.Core.Bool.{Bool, true, false, cond, not, ◌&&◌}
-use mathlib.Core.Option.{Option, none, some}
+use Rattle.std.specs.Prelude.{Option, None, Some}
 use mathlib.Core.Path.{◌≡◌, refl, ap, ◌∙◌}
 use native.Mathlib.Nat.{le_refl}
 use native.Mathlib.Omega.{arith}
@@ -53,16 +53,16 @@ module _ (net : Network) (sound : Sound net) (busy : Busy net) where
   -- ---- sums over a route
   module _ (c : ℕ → ℕ) where
     abbrev pub over : Option ℕ → ℕ
-    over none = 0
-    over (some g) = weigh c (route net g)
+    over None = 0
+    over (Some g) = weigh c (route net g)
 
     pub route_sum : (h : ℕ) → h < length net.hops → weigh c (route net h) ≡ c h + over (parent_at net h)
     unfolding total route
     route_sum h l = go (parent_at net h) refl
       where
         go : (o : Option ℕ) → parent_at net h ≡ o → weigh c (route net h) ≡ c h + over o
-        go none e = ap (weigh c) (route_of_root net 7 h e)
-        go (some g) e = ap (weigh c) (route_of_parent net sound.references h l g e)
+        go None e = ap (weigh c) (route_of_root net 7 h e)
+        go (Some g) e = ap (weigh c) (route_of_parent net sound.references h l g e)
 
   -- ---- windows
   soon : ℕ → ℕ
@@ -79,7 +79,7 @@ module _ (net : Network) (sound : Sound net) (busy : Busy net) where
   unfolding late
   late_route h l = omega (arith, route_sum (most_at net) h l)
 
-  row_of_parent : (h g : ℕ) → h < length net.hops → parent_at net h ≡ some g → g < length net.hops
+  row_of_parent : (h g : ℕ) → h < length net.hops → parent_at net h ≡ Some g → g < length net.hops
   row_of_parent h g l e = omega (arith, sound.references.parent_earlier_says h g l e)
 
   soon_is : (h : ℕ) → h < length net.hops → soon h ≡ soon_by net soon h (parent_at net h)
@@ -88,8 +88,8 @@ module _ (net : Network) (sound : Sound net) (busy : Busy net) where
     where
       go : (o : Option ℕ) → parent_at net h ≡ o
           → send_line net (hop_at net h).vl + over (least_at net) o + (port_at net (hop_at net h).port).least ≡ soon_by net soon h o
-      go none e = omega arith
-      go (some g) e = omega (arith, ap (send_line net) (sound.references.parent_vl h g l e), soon_route g (row_of_parent h g l e))
+      go None e = omega arith
+      go (Some g) e = omega (arith, ap (send_line net) (sound.references.parent_vl h g l e), soon_route g (row_of_parent h g l e))
 
   late_is : (h : ℕ) → h < length net.hops → late h ≡ late_by net late h (parent_at net h)
   unfolding late
@@ -97,8 +97,8 @@ module _ (net : Network) (sound : Sound net) (busy : Busy net) where
     where
       go : (o : Option ℕ) → parent_at net h ≡ o
           → send_sum net (vl_at net (hop_at net h).vl).system + over (most_at net) o + (port_at net (hop_at net h).port).greatest ≡ late_by net late h o
-      go none e = omega arith
-      go (some g) e =
+      go None e = omega arith
+      go (Some g) e =
           omega (arith, ap (λ (v : ℕ). send_sum net (vl_at net v).system) (sound.references.parent_vl h g l e), late_route g (row_of_parent h g l e))
 
   -- on the end system's link: most less least is 01's (20 + Lmax − 84) × ticks per byte
@@ -114,7 +114,7 @@ module _ (net : Network) (sound : Sound net) (busy : Busy net) where
   spread (suc n) h k l = go (λ g. spread n g) (parent_at net h) refl
     where
       go : ((g : ℕ) → g < n → g < length net.hops → late g ≡ soon g + jitter_of net g) → (o : Option ℕ) → parent_at net h ≡ o → late h ≡ soon h + jitter_of net h
-      go f none e =
+      go f None e =
           let v = (hop_at net h).vl in
           let hv = sound.references.hop_vl h l in
           omega (
@@ -126,7 +126,7 @@ module _ (net : Network) (sound : Sound net) (busy : Busy net) where
             send_spread_lem v hv,
             sound.port_delay (hop_at net h).port (sound.references.hop_port h l),
           )
-      go f (some g) e =
+      go f (Some g) e =
           let row = row_of_parent h g l e in
           omega (
             arith,

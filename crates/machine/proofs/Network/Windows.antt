@@ -1,7 +1,7 @@
 -- The figures in the form that the lemmas use: of each hop the least and the most from hand-over to arrival at its port, and that the stations' figures cover what any span brings.
 -- Assumes nothing.
 use Prim.Native.Nat.{ℕ, ◌+◌, ◌*◌, ◌-◌, ◌≤◌, ◌<◌}
-use mathlib.Core.Option.{Option, none, some}
+use Rattle.std.specs.Prelude.{Option, None, Some}
 use mathlib.Core.Path.{◌≡◌, refl}
 use lib.ListN.{length}
 use Rattle.base.specs.Tests.{number_or0}
@@ -23,12 +23,12 @@ module _ (net : Network) where
   queue_is s = refl
 
   abbrev pub soon_by : (ℕ → ℕ) → ℕ → Option ℕ → ℕ
-  soon_by soon h none = send_line net (hop_at net h).vl + (port_at net (hop_at net h).port).least
-  soon_by soon h (some g) = soon g + hop_line net g + (port_at net (hop_at net h).port).least
+  soon_by soon h None = send_line net (hop_at net h).vl + (port_at net (hop_at net h).port).least
+  soon_by soon h (Some g) = soon g + hop_line net g + (port_at net (hop_at net h).port).least
 
   abbrev pub late_by : (ℕ → ℕ) → ℕ → Option ℕ → ℕ
-  late_by late h none = send_sum net (vl_at net (hop_at net h).vl).system + (port_at net (hop_at net h).port).greatest
-  late_by late h (some g) = late g + figure_of net g + (port_at net (hop_at net h).port).greatest
+  late_by late h None = send_sum net (vl_at net (hop_at net h).vl).system + (port_at net (hop_at net h).port).greatest
+  late_by late h (Some g) = late g + figure_of net g + (port_at net (hop_at net h).port).greatest
 
   -- `soon h` and `late h`: the least and the most from hand-over to arrival at the port of hop h; 01's jitter of the hop is their difference
   pub record Windows : Type 0 where

@@ -5,7 +5,7 @@ use Prim.Native.Nat.{ℕ, zero, suc, ◌+◌, ◌≤◌, ◌<◌}
 use mathlib.Core.List.{List, [], ◌∷◌, ◌++◌, Memᴰ}
 use mathlib.Core.List.Permᴰ
 use mathlib.Core.Logic.{◌⊎◌, inl, inr, ⊎_elim}
-use mathlib.Core.Option.{Option, none, some}
+use Rattle.std.specs.Prelude.{Option, None, Some}
 use mathlib.Core.Path.{◌≡◌, refl, sym, ap, ◌∙◌, subst}
 use native.Mathlib.Nat.{add-zero, add_assoc, le_refl}
 use native.Mathlib.Omega.{arith}
@@ -27,8 +27,8 @@ module _ {Job : Type 0} (cost : Job → ℕ) where
   plan e (j ∷ l) = record { job = j; ends = e + cost j } ∷ plan (e + cost j) l
 
   future : ℕ → List Job → Option (Sent Job) → List (Sent Job)
-  future t l none = plan t l
-  future t l (some s) = s ∷ plan s.ends l
+  future t l None = plan t l
+  future t l (Some s) = s ∷ plan s.ends l
 
   plan_append : (e : ℕ) (l r : List Job) → plan e (l ++ r) ≡ plan e l ++ plan (e + weigh cost l) r
   unfolding plan total
@@ -38,14 +38,14 @@ module _ {Job : Type 0} (cost : Job → ℕ) where
   future_append : (t : ℕ) (l r : List Job) (k : Option (Sent Job))
       → future t (l ++ r) k ≡ future t l k ++ plan (free cost t k + weigh cost l) r
   unfolding future free
-  future_append t l r none = plan_append t l r
-  future_append t l r (some s) = ap (λ (p : List (Sent Job)). s ∷ p) (plan_append s.ends l r)
+  future_append t l r None = plan_append t l r
+  future_append t l r (Some s) = ap (λ (p : List (Sent Job)). s ∷ p) (plan_append s.ends l r)
 
   future_start : (t : ℕ) (l : List Job) (k : Option (Sent Job)) → future t (start cost t l k).line (start cost t l k).link ≡ future t l k
   unfolding future plan
-  future_start t [] none = refl
-  future_start t (j ∷ l) none = refl
-  future_start t l (some s) = refl
+  future_start t [] None = refl
+  future_start t (j ∷ l) None = refl
+  future_start t l (Some s) = refl
 
   plan_known : (e : ℕ) (l : List Job) (x : Sent Job) → Memᴰ x (plan e l)
       → Memᴰ x.job l × (e + cost x.job ≤ x.ends) × (x.ends ≤ e + weigh cost l)
@@ -67,8 +67,8 @@ module _ {Job : Type 0} (cost : Job → ℕ) where
   sent_or_later : (t : ℕ) (l : List Job) (k : Option (Sent Job)) → Settled cost t l k → (x : Sent Job) → Memᴰ x (future t l k)
       → ((x.ends ≡ suc t) × Memᴰ x.job (ended (suc t) k)) ⊎ Memᴰ x (future (suc t) l (still (suc t) k))
   unfolding future plan
-  sent_or_later t l none h x m = absurd (mathlib.Core.List.Memᴰ.not-nil (rw h at m))
-  sent_or_later t l (some s) h x m = by_leb₂ s.ends (suc t)
+  sent_or_later t l None h x m = absurd (mathlib.Core.List.Memᴰ.not-nil (rw h at m))
+  sent_or_later t l (Some s) h x m = by_leb₂ s.ends (suc t)
       (λ (o : List Job) (k : Option (Sent Job)). ((x.ends ≡ suc t) × Memᴰ x.job o) ⊎ Memᴰ x (future (suc t) l k))
       (λ a. let now : s.ends ≡ suc t = omega arith in ⊎_elim
       (λ p. inl (ap (λ (z : Sent Job). z.ends) p ∙ now, mathlib.Core.List.Memᴰ.head (ap (λ (z : Sent Job). z.job) p)))
@@ -79,40 +79,40 @@ module _ {Job : Type 0} (cost : Job → ℕ) where
   was_to_be_sent : (t : ℕ) (l : List Job) (k : Option (Sent Job)) → Settled cost t l k → (x : Sent Job)
       → Memᴰ x (future (suc t) l (still (suc t) k)) → Memᴰ x (future t l k)
   unfolding future plan
-  was_to_be_sent t l none h x = λ m. absurd (mathlib.Core.List.Memᴰ.not-nil (rw h at m))
-  was_to_be_sent t l (some s) h x = by_leb s.ends (suc t)
+  was_to_be_sent t l None h x = λ m. absurd (mathlib.Core.List.Memᴰ.not-nil (rw h at m))
+  was_to_be_sent t l (Some s) h x = by_leb s.ends (suc t)
       (λ (k : Option (Sent Job)). Memᴰ x (future (suc t) l k) → Memᴰ x (s ∷ plan s.ends l))
       (λ a m. let now : s.ends ≡ suc t = omega arith in rw now (mathlib.Core.List.Memᴰ.tail m)) (λ a m. m)
 
   sent_now : (t : ℕ) (l : List Job) (k : Option (Sent Job)) → Settled cost t l k → (j : Job) → Memᴰ j (ended (suc t) k)
       → Memᴰ (record { job = j; ends = suc t }) (future t l k)
   unfolding future
-  sent_now t l none h j = λ m. absurd (mathlib.Core.List.Memᴰ.not-nil m)
-  sent_now t l (some s) h j = by_leb s.ends (suc t)
+  sent_now t l None h j = λ m. absurd (mathlib.Core.List.Memᴰ.not-nil m)
+  sent_now t l (Some s) h j = by_leb s.ends (suc t)
       (λ (o : List Job). Memᴰ j o → Memᴰ (record { job = j; ends = suc t }) (s ∷ plan s.ends l))
       (λ a m. let now : suc t ≡ s.ends = omega arith in let p : j ≡ s.job = mathlib.Core.List.Memᴰ.eq_of_singleton m in mathlib.Core.List.Memᴰ.head (rw (now, p)))
       (λ a m. absurd (mathlib.Core.List.Memᴰ.not-nil m))
 
   not_yet : (t : ℕ) (l : List Job) (k : Option (Sent Job)) → Settled cost t l k → (x : Sent Job) → Memᴰ x (future t l k) → t < x.ends
   unfolding future plan
-  not_yet t l none h x m = absurd (mathlib.Core.List.Memᴰ.not-nil (rw h at m))
-  not_yet t l (some s) h x m = ⊎_elim (λ p. omega (arith, ap (λ (z : Sent Job). z.ends) p))
+  not_yet t l None h x m = absurd (mathlib.Core.List.Memᴰ.not-nil (rw h at m))
+  not_yet t l (Some s) h x m = ⊎_elim (λ p. omega (arith, ap (λ (z : Sent Job). z.ends) p))
       (λ i. omega (arith, (plan_known s.ends l x i).1))
       (mathlib.Core.List.Memᴰ.cases_cons m)
 
   late : (t : ℕ) (k : Option (Sent Job)) → t ≤ free cost t (still t k)
   unfolding free
-  late t none = le_refl t
-  late t (some s) = by_leb s.ends t (λ (k : Option (Sent Job)). t ≤ free cost t k) (λ m. le_refl t) (λ m. omega arith)
+  late t None = le_refl t
+  late t (Some s) = by_leb s.ends t (λ (k : Option (Sent Job)). t ≤ free cost t k) (λ m. le_refl t) (λ m. omega arith)
 
-  idle_starts : (t : ℕ) (l : List Job) → Starts cost t l none (start cost t l none).line (start cost t l none).link
+  idle_starts : (t : ℕ) (l : List Job) → Starts cost t l None (start cost t l None).line (start cost t l None).link
   idle_starts t [] = rests (Permᴰ.refl []) refl
   idle_starts t (j ∷ l) = takes (Permᴰ.refl (j ∷ l))
 
   starts : (t : ℕ) (l : List Job) (k : Option (Sent Job))
       → Starts cost t l (still t k) (start cost t l (still t k)).line (start cost t l (still t k)).link
-  starts t l none = idle_starts t l
-  starts t l (some s) = by_leb s.ends t (λ (k : Option (Sent Job)). Starts cost t l k (start cost t l k).line (start cost t l k).link)
+  starts t l None = idle_starts t l
+  starts t l (Some s) = by_leb s.ends t (λ (k : Option (Sent Job)). Starts cost t l k (start cost t l k).line (start cost t l k).link)
       (λ m. idle_starts t l) (λ m. goes_on_lem m (Permᴰ.refl l))
 
   -- ---- tick by tick

@@ -6,7 +6,7 @@ use mathlib.Core.List.{List, [], ◌∷◌, ◌++◌, append_assoc, Memᴰ}
 use mathlib.Core.List.Permᴰ
 use mathlib.Core.List.{Permᴰ}
 use mathlib.Core.Logic.{⊎_elim}
-use mathlib.Core.Option.{Option, none, some}
+use Rattle.std.specs.Prelude.{Option, None, Some}
 use mathlib.Core.Path.{◌≡◌, refl, ap, subst}
 use native.Mathlib.Omega.{arith}
 use Rattle.base.specs.Tabulate.{total}
@@ -21,18 +21,18 @@ use Rattle.machine.proofs.Stage.Moves as Moves
 module _ {X : Type 0} (cost : X → ℕ) where
   -- the tick at which the link is free, and what it sends
   unfoldable pub free : ℕ → Option (Sent X) → ℕ
-  free t none = t
-  free t (some s) = s.ends
+  free t None = t
+  free t (Some s) = s.ends
 
   abbrev pub sends : Option (Sent X) → List X
-  sends none = []
-  sends (some s) = s.job ∷ []
+  sends None = []
+  sends (Some s) = s.job ∷ []
 
   -- what starts in tick t: a link at work goes on, an idle one takes one of those that wait, in whichever order they stand, or none waits
   pub data Starts (t : ℕ) : List X → Option (Sent X) → List X → Option (Sent X) → Type 0 where
-    goes_on_lem : {l l' : List X} {s : Sent X} → t < s.ends → Permᴰ l l' → Starts t l (some s) l' (some s)
-    takes : {l l' : List X} {x : X} → Permᴰ l (x ∷ l') → Starts t l none l' (some (record { job = x; ends = t + cost x }))
-    rests : {l l' : List X} → Permᴰ l l' → l' ≡ [] → Starts t l none l' none
+    goes_on_lem : {l l' : List X} {s : Sent X} → t < s.ends → Permᴰ l l' → Starts t l (Some s) l' (Some s)
+    takes : {l l' : List X} {x : X} → Permᴰ l (x ∷ l') → Starts t l None l' (Some (record { job = x; ends = t + cost x }))
+    rests : {l l' : List X} → Permᴰ l l' → l' ≡ [] → Starts t l None l' None
 
   same_there : {t : ℕ} {l l' : List X} {k k' : Option (Sent X)} → Starts t l k l' k' → Permᴰ (sends k ++ l) (sends k' ++ l')
   same_there (goes_on_lem m p) = Permᴰ.cons refl p
@@ -47,8 +47,8 @@ module _ {X : Type 0} (cost : X → ℕ) where
 
   -- after a tick: an idle link has nothing to send, a busy one ends later
   abbrev pub Settled : ℕ → List X → Option (Sent X) → Type 0
-  Settled t l none = l ≡ []
-  Settled t l (some s) = t < s.ends
+  Settled t l None = l ≡ []
+  Settled t l (Some s) = t < s.ends
 
   settles : (t : ℕ) {l l' : List X} {k k' : Option (Sent X)} → ((x : X) → Memᴰ x l → 0 < cost x) → Starts t l k l' k' → Settled t l' k'
   settles t pos (goes_on_lem m p) = m
@@ -56,14 +56,14 @@ module _ {X : Type 0} (cost : X → ℕ) where
   settles t pos (rests p e) = e
 
   ends_same : (t : ℕ) (k : Option (Sent X)) → ended t k ++ sends (still t k) ≡ sends k
-  ends_same t none = refl
-  ends_same t (some s) = by_leb₂ s.ends t (λ (o : List X) (k : Option (Sent X)). o ++ sends k ≡ s.job ∷ []) (λ m. refl) (λ m. refl)
+  ends_same t None = refl
+  ends_same t (Some s) = by_leb₂ s.ends t (λ (o : List X) (k : Option (Sent X)). o ++ sends k ≡ s.job ∷ []) (λ m. refl) (λ m. refl)
 
   still_free : (t : ℕ) (l : List X) (k : Option (Sent X)) → Settled t l k
       → free (suc t) (still (suc t) k) + weigh cost l ≤ max (free t k + weigh cost l) (suc t)
   unfolding free total
-  still_free t l none h = omega (arith, ap (weigh cost) h)
-  still_free t l (some s) h = by_leb s.ends (suc t)
+  still_free t l None h = omega (arith, ap (weigh cost) h)
+  still_free t l (Some s) h = by_leb s.ends (suc t)
       (λ (k : Option (Sent X)). free (suc t) k + weigh cost l ≤ max (s.ends + weigh cost l) (suc t)) (λ m. omega arith) (λ m. omega arith)
 
   no_work : (l : List X) → ((y : X) → Memᴰ y l → 0 < cost y) → weigh cost l ≡ 0 → l ≡ []
@@ -75,8 +75,8 @@ module _ {X : Type 0} (cost : X → ℕ) where
       → free t k + weigh cost l ≤ suc t
       → sends (still (suc t) k) ++ l ≡ []
   unfolding free
-  drained t l none h pos e = h
-  drained t l (some s) h pos e = by_leb s.ends (suc t) (λ (k : Option (Sent X)). sends k ++ l ≡ [])
+  drained t l None h pos e = h
+  drained t l (Some s) h pos e = by_leb s.ends (suc t) (λ (k : Option (Sent X)). sends k ++ l ≡ [])
       (λ m. no_work l pos (omega arith)) (λ m. absurd (omega arith))
 
   -- ---- tick by tick: what waits and the link before it, and what comes in it; each costs something
@@ -84,7 +84,7 @@ module _ {X : Type 0} (cost : X → ℕ) where
     pub line : ℕ → List X
     pub link : ℕ → Option (Sent X)
     pub ins : ℕ → List X
-    pub none₀ : (line zero ≡ []) × (link zero ≡ none)
+    pub none₀ : (line zero ≡ []) × (link zero ≡ None)
     pub step : (t : ℕ) → Starts t (line t ++ ins t) (still t (link t)) (line (suc t)) (link (suc t))
     pub pos : (t : ℕ) (j : X) → Memᴰ j (ins t) → 0 < cost j
 
@@ -144,8 +144,8 @@ module _ {X : Type 0} (cost : X → ℕ) where
     busy_later t y = go (link (suc t)) (line (suc t)) (settled t)
       where
         go : (k : Option (Sent X)) (l : List X) → Settled t l k → Memᴰ y (sends k ++ l) → t < free t k + weigh cost l
-        go none l h m = absurd (mathlib.Core.List.Memᴰ.not-nil (rw h at m))
-        go (some s) l h m = omega arith
+        go None l h m = absurd (mathlib.Core.List.Memᴰ.not-nil (rw h at m))
+        go (Some s) l h m = omega arith
 
     -- with an arrival bound and a figure that covers it
     pub e_bound : (env : ℕ → ℕ) (f : ℕ) → ((x d : ℕ) → span (λ t. weigh cost (ins t)) x d ≤ env d) → ((d : ℕ) → env d ≤ f + d)
@@ -187,8 +187,8 @@ module _ {X : Type 0} (cost : X → ℕ) where
 
       -- what the link sends ends no sooner than its own cost after it came
       Ran : Option (Sent X) → Type 0
-      Ran none = Unit {0}
-      Ran (some z) = born z.job + cost z.job ≤ z.ends
+      Ran None = Unit {0}
+      Ran (Some z) = born z.job + cost z.job ≤ z.ends
 
       ran_start : (t : ℕ) {l l' : List X} {k k' : Option (Sent X)} → ((x : X) → Memᴰ x l → born x ≤ t) → Starts t l k l' k'
           → Ran k → Ran k'
@@ -199,8 +199,8 @@ module _ {X : Type 0} (cost : X → ℕ) where
 
       ran_still : (t : ℕ) (k : Option (Sent X)) → Ran k → Ran (still t k)
       unfolding Ran
-      ran_still t none r = tt
-      ran_still t (some z) r = by_leb z.ends t Ran (λ m. tt) (λ m. r)
+      ran_still t None r = tt
+      ran_still t (Some z) r = by_leb z.ends t Ran (λ m. tt) (λ m. r)
 
       come : (t : ℕ) (y : X) → Memᴰ y (there t) → born y ≤ t
       come = Moves.origin there ins out none_first moves (λ t y. born y ≤ t) (λ t y m. omega (arith, stamped t y m)) (λ t y h. omega arith)
@@ -222,8 +222,8 @@ module _ {X : Type 0} (cost : X → ℕ) where
           go : (k : Option (Sent X)) → Settled t (line (suc t)) k → Ran k
               → (Memᴰ y (sends k ++ line (suc t)) → free t k + weigh cost (line (suc t)) ≤ born y + s)
               → Memᴰ y (ended (suc t) k) → (born y + cost y ≤ suc t) × (suc t ≤ born y + s)
-          go none h r i = λ m. absurd (mathlib.Core.List.Memᴰ.not-nil m)
-          go (some z) h r i = by_leb z.ends (suc t) (λ (o : List X). Memᴰ y o → (born y + cost y ≤ suc t) × (suc t ≤ born y + s))
+          go None h r i = λ m. absurd (mathlib.Core.List.Memᴰ.not-nil m)
+          go (Some z) h r i = by_leb z.ends (suc t) (λ (o : List X). Memᴰ y o → (born y + cost y ≤ suc t) × (suc t ≤ born y + s))
               (λ a m. let p = mathlib.Core.List.Memᴰ.eq_of_singleton m in
               (omega (arith, ap born p, ap cost p), omega (arith, i (mathlib.Core.List.Memᴰ.head p))))
               (λ a m. absurd (mathlib.Core.List.Memᴰ.not-nil m))

@@ -4,7 +4,7 @@ use Prim.Native.Nat.{ℕ, zero, suc, ◌+◌, ◌*◌, ◌≤◌, ◌<◌, max}
 use mathlib.Core.List.Memᴰ
 use mathlib.Core.List.{List, [], ◌∷◌, ◌++◌, Memᴰ}
 use mathlib.Core.Logic.{⊎_elim, dite}
-use mathlib.Core.Option.{Option, none, some}
+use Rattle.std.specs.Prelude.{Option, None, Some}
 use mathlib.Core.Path.{◌≡◌, refl, sym, ap, ◌∙◌, subst}
 use native.Mathlib.Decide.{dec_le}
 use native.Mathlib.Nat.{add-zero, mul-le-mul_right, le_of_eq}
@@ -141,8 +141,8 @@ module _ {X : Type 0} (n gap : ℕ) (by from : X → ℕ) where
 
       -- a packet handed over in tick t
       Fair : ℕ → Option X → Type 0
-      Fair t none = Unit {0}
-      Fair t (some x) = (t + gap ≤ by x) × (from x ≤ t)
+      Fair t None = Unit {0}
+      Fair t (Some x) = (t + gap ≤ by x) × (from x ≤ t)
 
       record After (t : ℕ) (h : Handed X) : Type 0 where
         ok : Ok t h.queue
@@ -204,12 +204,12 @@ module _ {X : Type 0} (n gap : ℕ) (by from : X → ℕ) where
         run zero = after zero s₀ size₀ (mid_idle zero s₀ (λ i. omega arith) (omega arith) empty₀)
         run (suc t) = let o = (run t).ok in after (suc t) (queue gap s₀ new (suc t)) o.size (mid_next t (queue gap s₀ new (suc t)) o)
 
-        fair_at : (t : ℕ) (x : X) (o : Option X) → o ≡ some x → Fair t o → (t + gap ≤ by x) × (from x ≤ t)
+        fair_at : (t : ℕ) (x : X) (o : Option X) → o ≡ Some x → Fair t o → (t + gap ≤ by x) × (from x ≤ t)
         unfolding Fair
         fair_at t x o e h = subst (Fair t) e h
 
         -- no packet is handed over less than one gap before its virtual end, nor before its least tick
-        pub hand_bounds : (t : ℕ) (x : X) → handed gap s₀ new t ≡ some x → (t + gap ≤ by x) × (from x ≤ t)
+        pub hand_bounds : (t : ℕ) (x : X) → handed gap s₀ new t ≡ Some x → (t + gap ≤ by x) × (from x ≤ t)
         unfolding handed
         hand_bounds t x e = fair_at t x (queue_tick gap t (new t) (queue gap s₀ new t)).got e (run t).fair
 
@@ -235,7 +235,7 @@ module _ {X : Type 0} (n gap : ℕ) (by from : X → ℕ) where
             omega arith
 
         pub forward : (i : ℕ) → Memᴰ i (names s₀.lanes) → (t : ℕ) (x : X) → Memᴰ x (new t i)
-            → (u : ℕ) × (handed gap s₀ new u ≡ some x)
+            → (u : ℕ) × (handed gap s₀ new u ≡ Some x)
         unfolding queue
         forward i h t x m =
             let g = leaves (λ u. flat (lanes gap s₀ new u)) (brought new (lanes gap s₀ new) (stay gap s₀ new))

@@ -6,7 +6,7 @@ use mathlib.Core.List.{List, [], ◌++◌, Memᴰ}
 use mathlib.Core.List.Permᴰ
 use mathlib.Core.List.{Permᴰ}
 use mathlib.Core.Logic.{inl, inr, ◌⊎◌, ⊎_elim}
-use mathlib.Core.Option.{Option, none, some}
+use Rattle.std.specs.Prelude.{Option, None, Some}
 use mathlib.Core.Path.{◌≡◌, refl, sym, ap, ◌∙◌}
 use native.Mathlib.Omega.{arith}
 use lib.ListN.{length}
@@ -28,11 +28,11 @@ module _ {X : Type 0} where
   pub record Gave (gap t : ℕ) (new : ℕ → List X) (s : Queue X) (h : Handed X) : Type 0 where
     pub ready : s.next ≤ t
     pub took : Took (add new s.lanes) (serve [] (add new s.lanes))
-    pub is : h ≡ record { got = some took.head; queue = record { lanes = (serve [] (add new s.lanes)).lanes; next = t + gap } }
+    pub is : h ≡ record { got = Some took.head; queue = record { lanes = (serve [] (add new s.lanes)).lanes; next = t + gap } }
 
   pub record Kept (t : ℕ) (new : ℕ → List X) (s : Queue X) (h : Handed X) : Type 0 where
     pub why : (t < s.next) ⊎ Empty (add new s.lanes)
-    pub is : h ≡ record { got = none; queue = record { lanes = add new s.lanes; next = s.next } }
+    pub is : h ≡ record { got = None; queue = record { lanes = add new s.lanes; next = s.next } }
 
   pub cases : (gap t : ℕ) (new : ℕ → List X) (s : Queue X) → Gave gap t new s (queue_tick gap t new s) ⊎ Kept t new s (queue_tick gap t new s)
   cases gap t new s =
@@ -46,15 +46,15 @@ module _ {X : Type 0} where
       (λ k. inr (record {
         why = inr k.empty;
         is = ap (λ (o : Option X). hand gap t s.next (serve [] (add new s.lanes)).lanes o) k.got
-            ∙ ap (λ (ls : List (Lane X)). hand gap t s.next ls none) k.now;
+            ∙ ap (λ (ls : List (Lane X)). hand gap t s.next ls None) k.now;
       }))
       (turn (add new s.lanes)))
       (λ r. inr (record { why = inl r; is = refl }))
 
   hand_turned : (gap t next : ℕ) {all : List (Lane X)} (ls : List (Lane X)) (o : Option X) → Turned all (record { got = o; lanes = ls })
       → Turned all (record { got = (hand gap t next ls o).got; lanes = (hand gap t next ls o).queue.lanes })
-  hand_turned gap t next ls none w = w
-  hand_turned gap t next ls (some x) w = w
+  hand_turned gap t next ls None w = w
+  hand_turned gap t next ls (Some x) w = w
 
   pub queue_turned : (gap t : ℕ) (new : ℕ → List X) (s : Queue X)
       → Turned (add new s.lanes) (record { got = (queue_tick gap t new s).got; lanes = (queue_tick gap t new s).queue.lanes })
@@ -68,13 +68,13 @@ module _ {X : Type 0} where
 abbrev pub tally_of : {X : Type 0} → Option X → ℕ
 tally_of o = length (listed o)
 
-pub given : {X : Type 0} (o : Option X) → 0 < tally_of o → (x : X) × (o ≡ some x)
-given none h = absurd (omega arith)
-given (some x) h = (x, refl)
+pub given : {X : Type 0} (o : Option X) → 0 < tally_of o → (x : X) × (o ≡ Some x)
+given None h = absurd (omega arith)
+given (Some x) h = (x, refl)
 
-pub is_listed : {X : Type 0} (o : Option X) (x : X) → Memᴰ x (listed o) → o ≡ some x
-is_listed none x m = absurd (Memᴰ.not-nil m)
-is_listed (some y) x m = ap some (sym (Memᴰ.eq_of_singleton m))
+pub is_listed : {X : Type 0} (o : Option X) (x : X) → Memᴰ x (listed o) → o ≡ Some x
+is_listed None x m = absurd (Memᴰ.not-nil m)
+is_listed (Some y) x m = ap Some (sym (Memᴰ.eq_of_singleton m))
 
 -- ---- hand-overs are at least one gap apart, and what is handed over was brought
 module _ {X : Type 0} (gap : ℕ) (s₀ : Queue X) (new : ℕ → ℕ → List X) (next₀ : s₀.next ≡ zero) where
@@ -121,6 +121,6 @@ module _ {X : Type 0} (gap : ℕ) (s₀ : Queue X) (new : ℕ → ℕ → List X
       origin = Moves.origin (λ u. flat (lanes u)) (brought new lanes stay) (λ u. listed (handed gap s₀ new u)) none_first moves
           (λ t x. O x) new_is (λ t x o. o)
 
-      pub hand_origin : (t : ℕ) (x : X) → handed gap s₀ new t ≡ some x → O x
+      pub hand_origin : (t : ℕ) (x : X) → handed gap s₀ new t ≡ Some x → O x
       hand_origin t x e = out_origin (λ u. flat (lanes u)) (brought new lanes stay) (λ u. listed (handed gap s₀ new u)) none_first moves
           (λ u y. O y) new_is (λ u y o. o) t x (rw e (Memᴰ.head refl))

@@ -3,7 +3,7 @@
 use Prim.Native.Nat.{ℕ, zero, suc, ◌≤◌, ◌<◌}
 use mathlib.Core.List.{List, [], ◌∷◌, ◌++◌, append-nil}
 use mathlib.Core.Logic.{⊎_elim}
-use mathlib.Core.Option.{Option, none, some}
+use Rattle.std.specs.Prelude.{Option, None, Some}
 use mathlib.Core.Path.{◌≡◌, refl, sym, subst}
 use native.Mathlib.Nat.{eq-or-lt_of_le}
 use native.Mathlib.Omega.{arith}
@@ -34,9 +34,9 @@ module _ {X : Type 0} where
 
   ends_less : (x : X) (o : Option X) (l : List X) → EndsIn x (listed o ++ l) → EndsIn x l
   unfolding EndsIn
-  ends_less x none l e = e
-  ends_less x (some y) [] e = tt
-  ends_less x (some y) (z ∷ l) e = e
+  ends_less x None l e = e
+  ends_less x (Some y) [] e = tt
+  ends_less x (Some y) (z ∷ l) e = e
 
   ends_last : (x y : X) (l : List X) → EndsIn x (y ∷ l) → length l ≡ zero → y ≡ x
   unfolding EndsIn
@@ -81,6 +81,6 @@ module _ {X : Type 0} where
           (eq-or-lt_of_le h)
 
       -- what is handed over while nothing else is left is x
-      pub last_out : (t : ℕ) (y : X) → n ≤ t → handed gap s₀ new t ≡ some y
+      pub last_out : (t : ℕ) (y : X) → n ≤ t → handed gap s₀ new t ≡ Some y
           → ((l : List X) → (queue gap s₀ new (suc t)).lanes ≡ lane l ∷ [] → length l ≡ zero) → y ≡ x
       last_out t y h e z = ends_last x y (at (suc t)).0 (rw (next t, e) at (tail t h)) (z (at (suc t)).0 (at (suc t)).1)

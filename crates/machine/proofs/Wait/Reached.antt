@@ -5,7 +5,7 @@ use mathlib.Core.Bool.{Bool, true, cond, not}
 use mathlib.Core.List.Memᴰ
 use mathlib.Core.List.{List, [], ◌∷◌, ◌++◌, Memᴰ, append_assoc, append-nil}
 use mathlib.Core.Logic.{⊎_elim, dite}
-use mathlib.Core.Option.{some}
+use Rattle.std.specs.Prelude.{Some}
 use mathlib.Core.Path.{◌≡◌, refl, sym, ap, ◌∙◌, subst, fun_ext}
 use native.Mathlib.Decide.{dec_lt}
 use native.Mathlib.Omega.{arith}
@@ -165,9 +165,9 @@ module _ (net : Network) (sound : Sound net) (win : Windows net) (aim : Aim net)
       ap (to_lane net v 0) (due_is ∙ ap (λ (l : List Message). front ++ l) tail.is ∙ sym (append_assoc front tail.front (victim ∷ [])))
       ∙ lane_append (front ++ tail.front) (victim ∷ [])
       ∙ ap (λ (l : List Packet). a ++ l) victim_lane in
-      let some : 0 < length b = omega (arith, length-append (number victim 0 cut.front) (x₁ ∷ [])) in (
-        omega (arith, ap length e, length-append a b, some),
-        subst (λ (l : List Packet). EndsIn x₁ l) (sym e) (ends_over x₁ a b some (ends_one x₁ (number victim 0 cut.front))),
+      let Some : 0 < length b = omega (arith, length-append (number victim 0 cut.front) (x₁ ∷ [])) in (
+        omega (arith, ap length e, length-append a b, Some),
+        subst (λ (l : List Packet). EndsIn x₁ l) (sym e) (ends_over x₁ a b Some (ends_one x₁ (number victim 0 cut.front))),
       )
 
   no_more : (t : ℕ) → end < t → news net run v t 0 ≡ []
@@ -222,7 +222,7 @@ module _ (net : Network) (sound : Sound net) (win : Windows net) (aim : Aim net)
       let is : x.0 ≡ x₁ = last_out gap first (news net run v) one_lane x₁ end news_end.0 news_end.1 no_more t x.0 after_last x.1
       (λ l e. let n = ap length (append-nil l) in
       omega (arith, conserved_one (suc t), ap (λ (ls : List (Lane Packet)). length (flat ls)) e, u.2, whole)) in
-      let q = bounds net sound run ok v win hv t x₁ (x.1 ∙ ap (λ (z : Packet). some z) is) in
+      let q = bounds net sound run ok v win hv t x₁ (x.1 ∙ ap (λ (z : Packet). Some z) is) in
       let sub : (stream_at net s₁).sublink ≡ 0 = omega (arith, sound.references.stream_sub_link s₁ on, ap (λ (z : ℕ). (vl_at net z).sublinks) of, one) in
       let fs : queue_station net v (stream_at net victim.stream).sublink ≡ queue_station net v 0 =
       ap (λ (z : ℕ). queue_station net v (stream_at net z).sublink) victim_stream ∙ ap (queue_station net v) sub in
@@ -243,7 +243,7 @@ module _ (net : Network) (sound : Sound net) (win : Windows net) (aim : Aim net)
         of = refl;
         last = x₁_last;
         at = t;
-        over = ap (λ (z : ℕ). (hands net t (ch net run t) (st net run t) z).got) of ∙ hands_is net run v t ∙ x.1 ∙ ap (λ (z : Packet). some z) is;
+        over = ap (λ (z : ℕ). (hands net t (ch net run t) (st net run t) z).got) of ∙ hands_is net run v t ∙ x.1 ∙ ap (λ (z : Packet). Some z) is;
         wait = omega (arith, w, fq, fb, after_last);
       }
     where
