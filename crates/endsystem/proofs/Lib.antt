@@ -1,3 +1,2 @@
 pub mod FlatLaws
-pub mod SpeedLaws
 pub mod Unique

@@ -4,18 +4,17 @@
 
 ghost use Rattle.std.specs.Prelude.{◌≡◌};
 ghost use Rattle.base.specs.Said.{ruled};
-ghost use Rattle.frame.specs.Reply.{said as replySaid};
 ghost use Rattle.frame.specs.Tick.{sends_in_time};
 ghost use Rattle.frame.specs.Frame.{line_of};
 ghost use Rattle.frame.specs.Offered.{largest_line_of, packets_of};
 ghost use Rattle.frame.specs.Gap.{gap_of, code_of, ms_of};
-ghost use Rattle.station.specs.Answer.{said as answerSaid};
+ghost use Rattle.station.specs.Answer.{said};
 ghost use Rattle.endsystem.specs.Answers.{rule_said, station_said};
 ghost use Rattle.endsystem.specs.Speeds.{per_byte_at};
 ghost use Rattle.endsystem.specs.Flat.{flat_says};
 
-use frame::{Reply, Speed, Tick};
-use station::Answer;
+use frame::{Speed, Tick};
+use station::{Busy, Refusal};
 
 // ---- the frame rule
 
@@ -29,17 +28,18 @@ pub struct RuleAnswer {
     pub value: u64,
 }
 
-fn told(reply: Reply) -> RuleAnswer
-    ensures { rule_said result ≡ replySaid reply }
+#[tactic(auto, unfolding(crate::specs::Answers::rule_said, base::specs::Said::ruled))]
+fn told(reply: Option<u64>) -> RuleAnswer
+    ensures { rule_said result ≡ ruled reply }
 {
     match reply {
-        Reply::Value(v) => RuleAnswer {
+        Some(value) => RuleAnswer {
             number: 0,
             section: 0,
             row: 0,
-            value: v,
+            value,
         },
-        Reply::Refused => RuleAnswer {
+        None => RuleAnswer {
             number: 4,
             section: 0,
             row: 0,
@@ -97,15 +97,16 @@ pub extern "C" fn avulgjesh_ms_of(code: u64) -> RuleAnswer
 }
 
 // The ticks that a byte takes at a speed in Mbit/s.
+#[tactic(auto, unfolding(crate::specs::Speeds::per_byte_at))]
 #[unsafe(no_mangle)]
 pub extern "C" fn avulgjesh_per_byte(speed: u64) -> RuleAnswer
     ensures { rule_said result ≡ ruled (per_byte_at speed) }
 {
-    match speed {
-        100 => told(Reply::Value(Tick::per_byte(Speed::Mbit100))),
-        10 => told(Reply::Value(Tick::per_byte(Speed::Mbit10))),
-        _ => told(Reply::Refused),
-    }
+    told(match speed {
+        100 => Some(Tick::per_byte(Speed::Mbit100)),
+        10 => Some(Tick::per_byte(Speed::Mbit10)),
+        _ => None,
+    })
 }
 
 // Whether an end system whose frames take this many ticks in all keeps to equation 1.
@@ -129,26 +130,23 @@ pub struct StationAnswer {
     pub figure: u64,
 }
 
-fn station_told(answer: Answer) -> StationAnswer
-    ensures { station_said result ≡ answerSaid answer }
+#[tactic(auto, unfolding(crate::specs::Answers::station_said, station::specs::Answer::said))]
+fn station_told(answer: Result<Busy, Refusal>) -> StationAnswer
+    ensures { station_said result ≡ said answer }
 {
     match answer {
-        Answer::Served { length, figure } => StationAnswer {
+        Ok(busy) => StationAnswer {
             number: 0,
             section: 0,
             row: 0,
-            length: length,
-            figure: figure,
+            length: busy.length,
+            figure: busy.figure,
         },
-        Answer::OutOfRange => StationAnswer {
-            number: 4,
-            section: 0,
-            row: 0,
-            length: 0,
-            figure: 0,
-        },
-        Answer::Endless => StationAnswer {
-            number: 10,
+        Err(refusal) => StationAnswer {
+            number: match refusal {
+                Refusal::OutOfRange => 4,
+                Refusal::Endless => 10,
+            },
             section: 0,
             row: 0,
             length: 0,
@@ -158,12 +156,14 @@ fn station_told(answer: Answer) -> StationAnswer
 }
 
 // The station of a flat slice of flows: three numbers a flow, its period, its jitter and its cost.
+#[tactic(auto, using(crate::proofs::FlatLaws::uneven, crate::proofs::FlatLaws::even), unfolding(station::specs::Answer::said))]
 #[unsafe(no_mangle)]
 pub extern "C" fn avulgjesh_station(flows: &[u64]) -> StationAnswer
     ensures { station_said result ≡ flat_says flows.now }
 {
     if flows.len() % 3 != 0 {
-        return station_told(Answer::OutOfRange);
+        station_told(Err(Refusal::OutOfRange))
+    } else {
+        station_told(station::station_in(flows, flows.len() / 3))
     }
-    station_told(station::station_in(flows, flows.len() / 3))
 }

@@ -5,228 +5,259 @@
 mod plan;
 mod records;
 
-use plan::{Group, Mix, Plan};
-use station::Answer;
+ghost use Rattle.std.specs.Prelude.{◌≤◌};
 
-const STDOUT_FILENO: i32 = 1;
+use plan::{Group, Plan};
+use station::{Busy, Refusal};
+use std::{fmt, io};
 
-fn show(a: Answer) {
-    match a {
-        Answer::Served { length, figure } => {
-            io::print_decimal(STDOUT_FILENO, length);
-            io::write_all(STDOUT_FILENO, b" ");
-            io::print_decimal(STDOUT_FILENO, figure);
+// What a station says.
+#[derive(Clone, Copy)]
+struct Told(Result<Busy, Refusal>);
+
+impl fmt::Display for Told {
+    fn fmt<W: fmt::Write>(&self, f: &mut fmt::Formatter<W>) -> fmt::Result {
+        match self.0 {
+            Ok(busy) => write!(f, "{} {}", busy.length, busy.figure),
+            Err(Refusal::OutOfRange) => write!(f, "refused 4"),
+            Err(Refusal::Endless) => write!(f, "refused 10"),
         }
-        Answer::OutOfRange => {
-            io::write_all(STDOUT_FILENO, b"refused 4");
-        }
-        Answer::Endless => {
-            io::write_all(STDOUT_FILENO, b"refused 10");
-        }
     }
 }
 
-// The first n flows of a plan, which has 1,025: what the station says of them as numbers, and as records.
-fn run(n: usize, p: Plan) {
-    let list = plan::built(p);
-    show(station::station_in(&list, n));
-    io::write_all(STDOUT_FILENO, b" | ");
-    if n <= 1_025 {
-        show(records::told(records::made(&list), n));
-    }
-    io::write_all(STDOUT_FILENO, b"\n");
+// The first n flows of a plan: what the station says of them as numbers, and as records.
+fn run(rt: &impl Print, name: &str, n: usize, plan: Plan<'_>) -> io::Result<()>
+    requires { n ≤ 1025 }
+{
+    let flows = plan::built(plan);
+    let as_numbers = Told(station::station_in(&records::numbers(&flows), n));
+    let as_records = Told(records::told(&flows, n));
+    println!(rt; "{name} {as_numbers} | {as_records}")
 }
 
-fn flows(
-    count: usize,
-    period: u64,
-    first: u64,
-    gap: u64,
-    cost: u64,
-    more: usize,
-    rounds: u64,
-) -> Group {
-    Group {
-        count,
-        period,
-        first,
-        gap,
-        cost,
-        more,
-        rounds,
-    }
-}
+// As many flows as a station takes, of the shortest period and a cost of 1.
+const FULL: Group = Group {
+    count: 1_024,
+    period: 12_500,
+    first: 0,
+    gap: 0,
+    cost: 1,
+    more: 0,
+    rounds: 0,
+};
 
-fn nothing() -> Group {
-    flows(0, 0, 0, 0, 0, 0, 0)
-}
+// One of them.
+const ONE: Group = Group { count: 1, ..FULL };
 
-fn unmixed() -> Mix {
-    Mix {
-        seed: 0,
-        low: 0,
-        spread: 0,
-        base: 0,
-        step: 0,
-    }
-}
-
-fn triple(n: usize, one: Group, two: Group, three: Group) {
-    run(
-        n,
-        Plan {
-            one,
-            two,
-            three,
-            mix: unmixed(),
-        },
-    );
-}
-
-fn double(n: usize, one: Group, two: Group) {
-    triple(n, one, two, nothing());
-}
-
-fn single(n: usize, one: Group) {
-    double(n, one, nothing());
-}
-
-fn mixed(mix: Mix) {
-    run(
-        1_024,
-        Plan {
-            one: nothing(),
-            two: nothing(),
-            three: nothing(),
-            mix,
-        },
-    );
-}
-
-fn port(seed: u64, low: u64, spread: u64) {
-    mixed(Mix {
-        seed,
-        low,
-        spread,
-        base: 0,
-        step: 0,
-    });
-}
-
-fn queue(seed: u64, base: u64, step: u64) {
-    mixed(Mix {
-        seed,
-        low: 0,
-        spread: 1,
-        base,
-        step,
-    });
+fn single(rt: &impl Print, name: &str, n: usize, group: Group) -> io::Result<()>
+    requires { n ≤ 1025 }
+{
+    run(rt, name, n, Plan::Groups(&[group]))
 }
 
 // 1,023 small flows and one more, which is at an end of a range or one past it.
-fn last(words: &[u8], flow: Group) {
-    io::write_all(STDOUT_FILENO, words);
-    double(1_024, flows(1_023, 12_500, 0, 0, 1, 0, 0), flow);
+fn last(rt: &impl Print, name: &str, flow: Group) -> io::Result<()> {
+    let small = Group {
+        count: 1_023,
+        ..FULL
+    };
+    run(rt, name, 1_024, Plan::Groups(&[small, flow]))
 }
 
-fn edges() {
-    io::write_all(STDOUT_FILENO, b"none ");
-    single(0, nothing());
-    io::write_all(STDOUT_FILENO, b"one ");
-    single(1, flows(1, 12_500, 0, 0, 1_538, 0, 1));
-    last(b"short-period ", flows(1, 12_499, 0, 0, 1, 0, 0));
-    last(b"longest-period ", flows(1, 125_000_000, 0, 0, 1, 0, 0));
-    last(b"long-period ", flows(1, 125_000_001, 0, 0, 1, 0, 0));
-    last(b"longest-jitter ", flows(1, 125_000_000, 0, 0, 1, 0, 16));
-    last(
-        b"long-jitter ",
-        flows(1, 125_000_000, 124_999_999, 0, 1, 0, 16),
-    );
-    last(b"no-cost ", flows(1, 12_500, 0, 0, 0, 0, 0));
-    last(
-        b"greatest-cost ",
-        flows(1, 12_500, 0, 0, 4_000_000_000, 0, 0),
-    );
-    last(b"great-cost ", flows(1, 12_500, 0, 0, 4_000_000_001, 0, 0));
-    let ones = flows(1_025, 12_500, 0, 0, 1, 0, 0);
-    io::write_all(STDOUT_FILENO, b"most ");
-    single(1_024, ones);
-    io::write_all(STDOUT_FILENO, b"too-many ");
-    single(1_025, ones);
+fn edges(rt: &impl Print) -> io::Result<()> {
+    run(rt, "none", 0, Plan::Groups(&[]))?;
+    let one = Group {
+        cost: 1_538,
+        rounds: 1,
+        ..ONE
+    };
+    single(rt, "one", 1, one)?;
+    for (name, period) in [
+        ("short-period", 12_499),
+        ("longest-period", 125_000_000),
+        ("long-period", 125_000_001),
+    ] {
+        last(rt, name, Group { period, ..ONE })?;
+    }
+    for (name, first) in [("longest-jitter", 0), ("long-jitter", 124_999_999)] {
+        let flow = Group {
+            period: 125_000_000,
+            first,
+            rounds: 16,
+            ..ONE
+        };
+        last(rt, name, flow)?;
+    }
+    for (name, cost) in [
+        ("no-cost", 0),
+        ("greatest-cost", 4_000_000_000),
+        ("great-cost", 4_000_000_001),
+    ] {
+        last(rt, name, Group { cost, ..ONE })?;
+    }
+    let more = Group {
+        count: 1_025,
+        ..FULL
+    };
+    single(rt, "most", 1_024, more)?;
+    single(rt, "too-many", 1_025, more)
 }
 
-fn usual() {
-    io::write_all(STDOUT_FILENO, b"port-30 ");
-    port(1, 6, 360);
-    io::write_all(STDOUT_FILENO, b"port-60 ");
-    port(2, 6, 900);
-    io::write_all(STDOUT_FILENO, b"port-90 ");
-    port(3, 5, 940);
-    io::write_all(STDOUT_FILENO, b"queue-30 ");
-    queue(4, 36_000_000, 1_000);
-    io::write_all(STDOUT_FILENO, b"queue-60 ");
-    queue(5, 18_000_000, 500);
-    io::write_all(STDOUT_FILENO, b"queue-90 ");
-    queue(6, 12_000_000, 340);
+fn usual(rt: &impl Print) -> io::Result<()> {
+    for (name, seed, low, spread) in [
+        ("port-30", 1, 6, 360),
+        ("port-60", 2, 6, 900),
+        ("port-90", 3, 5, 940),
+    ] {
+        run(rt, name, 1_024, Plan::Port { seed, low, spread })?;
+    }
+    for (name, seed, base, step) in [
+        ("queue-30", 4, 36_000_000, 1_000),
+        ("queue-60", 5, 18_000_000, 500),
+        ("queue-90", 6, 12_000_000, 340),
+    ] {
+        run(rt, name, 1_024, Plan::Queue { seed, base, step })?;
+    }
+    Ok(())
 }
 
-fn near() {
-    io::write_all(STDOUT_FILENO, b"near-99 ");
-    single(1_024, flows(1_024, 12_500, 0, 4_581, 12, 87, 0));
-    io::write_all(STDOUT_FILENO, b"near-999 ");
-    single(1_024, flows(1_024, 12_500, 0, 4_581, 12, 200, 0));
-    io::write_all(STDOUT_FILENO, b"above-one ");
-    single(1_024, flows(1_024, 12_500, 0, 4_581, 12, 300, 0));
-    io::write_all(STDOUT_FILENO, b"twice ");
-    single(1_024, flows(1_024, 12_500, 0, 4_581, 24, 424, 0));
+fn near(rt: &impl Print) -> io::Result<()> {
+    for (name, cost, more) in [
+        ("near-99", 12, 87),
+        ("near-999", 12, 200),
+        ("above-one", 12, 300),
+        ("twice", 24, 424),
+    ] {
+        let flows = Group {
+            gap: 4_581,
+            cost,
+            more,
+            ..FULL
+        };
+        single(rt, name, 1_024, flows)?;
+    }
+    Ok(())
 }
 
-fn crafted() {
-    io::write_all(STDOUT_FILENO, b"ends-small ");
-    triple(
-        1_024,
-        flows(450, 12_500, 1, 21, 21, 0, 0),
-        flows(150, 12_500, 9_451, 20, 20, 0, 0),
-        flows(424, 125_000_000, 5_100_000, 5_000, 20, 0, 0),
-    );
-    io::write_all(STDOUT_FILENO, b"begins-small ");
-    double(
-        1_024,
-        flows(600, 12_500, 1, 20, 1, 0, 0),
-        flows(424, 125_000_000, 1, 1, 140, 0, 0),
-    );
-    io::write_all(STDOUT_FILENO, b"slip-small ");
-    triple(
-        1_024,
-        flows(1_022, 12_500, 9_979, 1, 1, 0, 0),
-        flows(1, 12_500, 11_001, 0, 8_958, 0, 0),
-        flows(1, 15_000, 0, 0, 2_520, 0, 0),
-    );
-    io::write_all(STDOUT_FILENO, b"crest-small ");
-    triple(
-        1_024,
-        flows(1, 12_500, 1, 0, 9_478, 0, 0),
-        flows(1_022, 12_500, 2, 1, 1, 0, 0),
-        flows(1, 50_000, 0, 0, 3, 0, 0),
-    );
+fn crafted(rt: &impl Print) -> io::Result<()> {
+    let ends = [
+        Group {
+            count: 450,
+            first: 1,
+            gap: 21,
+            cost: 21,
+            ..FULL
+        },
+        Group {
+            count: 150,
+            first: 9_451,
+            gap: 20,
+            cost: 20,
+            ..FULL
+        },
+        Group {
+            count: 424,
+            period: 125_000_000,
+            first: 5_100_000,
+            gap: 5_000,
+            cost: 20,
+            ..FULL
+        },
+    ];
+    run(rt, "ends-small", 1_024, Plan::Groups(&ends))?;
+    let begins = [
+        Group {
+            count: 600,
+            first: 1,
+            gap: 20,
+            ..FULL
+        },
+        Group {
+            count: 424,
+            period: 125_000_000,
+            first: 1,
+            gap: 1,
+            cost: 140,
+            ..FULL
+        },
+    ];
+    run(rt, "begins-small", 1_024, Plan::Groups(&begins))?;
+    let slip = [
+        Group {
+            count: 1_022,
+            first: 9_979,
+            gap: 1,
+            ..FULL
+        },
+        Group {
+            first: 11_001,
+            cost: 8_958,
+            ..ONE
+        },
+        Group {
+            period: 15_000,
+            cost: 2_520,
+            ..ONE
+        },
+    ];
+    run(rt, "slip-small", 1_024, Plan::Groups(&slip))?;
+    let crest = [
+        Group {
+            first: 1,
+            cost: 9_478,
+            ..ONE
+        },
+        Group {
+            count: 1_022,
+            first: 2,
+            gap: 1,
+            ..FULL
+        },
+        Group {
+            period: 50_000,
+            cost: 3,
+            ..ONE
+        },
+    ];
+    run(rt, "crest-small", 1_024, Plan::Groups(&crest))
 }
 
-fn creeping() {
-    io::write_all(STDOUT_FILENO, b"crest-port-small ");
-    triple(
-        83,
-        flows(4, 12_500, 1, 0, 1_456, 1, 0),
-        flows(78, 12_500, 85, 84, 84, 0, 0),
-        flows(1, 50_000, 0, 0, 87, 0, 0),
-    );
-    io::write_all(STDOUT_FILENO, b"creep-queue ");
-    single(1, flows(1, 12_501, 2_502, 0, 12_500, 0, 0));
+fn creeping(rt: &impl Print) -> io::Result<()> {
+    let crest = [
+        Group {
+            count: 4,
+            first: 1,
+            cost: 1_456,
+            more: 1,
+            ..FULL
+        },
+        Group {
+            count: 78,
+            first: 85,
+            gap: 84,
+            cost: 84,
+            ..FULL
+        },
+        Group {
+            period: 50_000,
+            cost: 87,
+            ..ONE
+        },
+    ];
+    run(rt, "crest-port-small", 83, Plan::Groups(&crest))?;
+    let creep = Group {
+        period: 12_501,
+        first: 2_502,
+        cost: 12_500,
+        ..ONE
+    };
+    single(rt, "creep-queue", 1, creep)
 }
 
-fn main() {
-    edges();
-    usual();
-    near();
-    crafted();
-    creeping();
+fn main(rt: HostRuntime) -> io::Result<()> {
+    edges(&rt)?;
+    usual(&rt)?;
+    near(&rt)?;
+    crafted(&rt)?;
+    creeping(&rt)
 }

@@ -2,7 +2,7 @@
 -- Assumes nothing.
 use Prim.Native.Nat.{ℕ, zero, suc, ◌+◌, ◌-◌, ◌≤◌, ◌<◌}
 use mathlib.Core.Logic.{⊎_elim}
-use mathlib.Core.Option.{some}
+use Rattle.std.specs.Prelude.{Some}
 use mathlib.Core.Path.{◌≡◌}
 use native.Mathlib.Omega.{arith}
 use Rattle.search.specs.Spans.{least_length_to}
@@ -13,7 +13,7 @@ use Rattle.search.proofs.SpanLaws.{lt_or_ge, length_was, covers_all}
 pub enough_all : (g : ℕ → ℕ) (l : ℕ) → Enough g l l
 enough_all g l = record { no_longer = omega arith; bounds = λ v h. h }
 
-module _ (g : ℕ → ℕ) (lim : ℕ) (even : Even g) (l : ℕ) (least : least_length_to lim g ≡ some l) (long : cycle < l) where
+module _ (g : ℕ → ℕ) (lim : ℕ) (even : Even g) (l : ℕ) (least : least_length_to lim g ≡ Some l) (long : cycle < l) where
   -- else no length would serve: one below a cycle does not, and each cycle more asks for as much as it gives
   none_serves : cycle ≤ even.more → (n e : ℕ) → e ≤ n → suc e < g e
   unfolding cycle

@@ -6,8 +6,8 @@ use mathlib.Core.Path.{◌≡◌, refl}
 use native.Mathlib.Nat.{div-mul-le_self, le-div_iff_mul-le, mul-le-mul, div-lt_iff_lt-mul}
 use native.Mathlib.Omega.{arith}
 use lib.Dec.{leb}
-use borrow.Author.Tests.{leb-true, le-leb, lt-leb}
-use Rattle.search.specs.declared.Flow.{Flow}
+use borrow.Author.Tests.{leb-true, le-leb}
+use Rattle.search.specs.declared.pass.Flow.{Flow}
 use Rattle.search.specs.Flows.{most, longest_period, in_range}
 use Rattle.search.specs.Spans.{limit}
 use Rattle.search.specs.Pass.{last_of}
@@ -44,30 +44,10 @@ in_range_says f e =
       cost_high = leb-true _ _ c.1;
     }
 
--- the tests of `in_range`, in their order
-module _ (f : Flow) where
-  pub short_period : f.period < 12500 → false ≡ in_range f
-  unfolding in_range
-  short_period h = simp (lt-leb 12500 f.period h)
-
-  module _ (a : 12500 ≤ f.period) where
-    pub long_period : longest_period < f.period → false ≡ in_range f
-    unfolding in_range
-    long_period h = simp (le-leb 12500 f.period a, lt-leb f.period longest_period h)
-
-    module _ (b : f.period ≤ longest_period) where
-      pub long_jitter : 2000000000 < f.jitter → false ≡ in_range f
-      unfolding in_range
-      long_jitter h = simp (le-leb 12500 f.period a, le-leb f.period longest_period b, lt-leb f.jitter 2000000000 h)
-
-      module _ (c : f.jitter ≤ 2000000000) where
-        pub no_cost : f.cost < 1 → false ≡ in_range f
-        unfolding in_range
-        no_cost h = simp (le-leb 12500 f.period a, le-leb f.period longest_period b, le-leb f.jitter 2000000000 c, lt-leb 1 f.cost h)
-
-        pub all_but_cost : 1 ≤ f.cost → leb f.cost 4000000000 ≡ in_range f
-        unfolding in_range
-        all_but_cost d = simp (le-leb 12500 f.period a, le-leb f.period longest_period b, le-leb f.jitter 2000000000 c, le-leb 1 f.cost d)
+-- with its other ranges kept, the cost decides
+pub all_but_cost : (f : Flow) → 12500 ≤ f.period → f.period ≤ longest_period → f.jitter ≤ 2000000000 → 1 ≤ f.cost → leb f.cost 4000000000 ≡ in_range f
+unfolding in_range
+all_but_cost f a b c d = simp (le-leb 12500 f.period a, le-leb f.period longest_period b, le-leb f.jitter 2000000000 c, le-leb 1 f.cost d)
 
 -- ---- one flow
 div_mono : (t a b : ℕ) → 0 < t → a ≤ b → a / t ≤ b / t

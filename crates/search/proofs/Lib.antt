@@ -3,7 +3,6 @@ pub mod SpanLaws
 pub mod EvenLaws
 pub mod Ways
 pub mod PassLaws
-pub mod TurnIs
 pub mod TurnLaws
 pub mod Unique
 pub mod Wiring

@@ -3,7 +3,7 @@
 use Prim.Native.Nat.{ℕ, zero, suc, ◌+◌, ◌-◌, ◌≤◌, ◌<◌}
 use mathlib.Core.Bool.{false}
 use mathlib.Core.Logic.{◌⊎◌, inl, inr, ⊎_elim}
-use mathlib.Core.Option.{none, some}
+use Rattle.std.specs.Prelude.{None, Some}
 use mathlib.Core.Path.{◌≡◌}
 use native.Mathlib.Decide.{dec_lt}
 use native.Mathlib.Omega.{arith}
@@ -22,11 +22,11 @@ module _ (g : ℕ → ℕ) where
 
   module _ (lim : ℕ) where
     -- d + 1 serves, and no shorter length does
-    pub length_is : (d : ℕ) → d < lim → g d ≤ suc d → ((e : ℕ) → e < d → suc e < g e) → least_length_to lim g ≡ some (suc d)
+    pub length_is : (d : ℕ) → d < lim → g d ≤ suc d → ((e : ℕ) → e < d → suc e < g e) → least_length_to lim g ≡ Some (suc d)
     unfolding least_length_to
     length_is d h serves fails = least_is _ 1 lim (suc d) (omega arith) (omega arith) (let same : suc d - 1 ≡ d = omega arith in rw same (le-leb (g d) (suc d) serves)) (fails_below d fails)
 
-    pub length_none : ((e : ℕ) → e < lim → suc e < g e) → least_length_to lim g ≡ none
+    pub length_none : ((e : ℕ) → e < lim → suc e < g e) → least_length_to lim g ≡ None
     unfolding least_length_to
     length_none fails = least_none _ 1 lim (λ l a b. fails_below lim fails l a (omega arith))
 
@@ -37,7 +37,7 @@ module _ (g : ℕ → ℕ) where
       pub serves : g (l - 1) ≤ l
       pub shorter : (e : ℕ) → suc e < l → suc e < g e
 
-    pub length_was : (l : ℕ) → least_length_to lim g ≡ some l → Serving l
+    pub length_was : (l : ℕ) → least_length_to lim g ≡ Some l → Serving l
     unfolding least_length_to
     length_was l e =
         let r = least_was _ 1 lim l e in
@@ -54,7 +54,7 @@ module _ (g : ℕ → ℕ) where
     unfolding excess
     excess_is = greatest_is (λ e. g e - e) l v d (λ e h. omega (arith, bound e h)) low (omega arith)
 
-    pub span_is : ((e : ℕ) → e < d → g e ≡ v + e → ⊥) → (0 < v ⊎ (d ≡ 0)) → least_span g l ≡ some d
+    pub span_is : ((e : ℕ) → e < d → g e ≡ v + e → ⊥) → (0 < v ⊎ (d ≡ 0)) → least_span g l ≡ Some d
     unfolding least_span
     span_is least some-excess =
         least_is _ 0 l d (omega arith) (omega arith) (eq-eqb (g d - d) (excess g l) (omega (arith, excess_is)))

@@ -1,20 +1,21 @@
 -- A turn keeps what is known where the search stands, for any function g of the span that grows with it, and leaves less to do.
 -- Assumes nothing.
 use Prim.Native.Nat.{ℕ, suc, ◌+◌, ◌-◌, ◌≤◌, ◌<◌}
-use mathlib.Core.Bool.{Bool, true, false, ◌&&◌, false≢true}
-use mathlib.Core.Option.{some}
-use mathlib.Core.Path.{◌≡◌, refl, ap, ◌∙◌}
+use mathlib.Core.Bool.{Bool, true, false, ◌&&◌}
+use Rattle.std.specs.Prelude.{None, Some}
+use Rattle.std.proofs.lemmas.Option.{same_Some, none-some}
+use mathlib.Core.Path.{◌≡◌, refl, sym, ap, ◌∙◌}
 use native.Mathlib.Omega.{arith}
 use lib.Dec.{leb, ltb, eqb}
 use borrow.Author.Tests.{leb-true, leb-false, ltb-true, ltb-false, eqb-true, eqb-false, lt-leb}
 use Rattle.base.specs.Pick.{pick}
-use Rattle.search.specs.declared.Tally.{Tally}
-use Rattle.search.specs.declared.Best.{Best}
-use Rattle.search.specs.declared.Search.{Search}
-use Rattle.search.specs.declared.Search.TheVariants.{Rising, Falling, Served, Endless, OutOfRange}
+use Rattle.search.specs.declared.pass.Tally.{Tally}
+use Rattle.search.specs.declared.turns.Best.{Best}
+use Rattle.search.specs.declared.turns.Search.{Search}
+use Rattle.search.specs.declared.turns.Search.TheVariants.{Rising, Falling, Served, Endless, OutOfRange}
 use Rattle.search.specs.Spans.{limit, Monotone, least_length}
 use Rattle.search.specs.Pass.{cycle}
-use Rattle.search.specs.Turn.{begun, goes_on, span_of, improved, seeded, fallen, turned_down, risen, turn_of}
+use Rattle.search.specs.Turn.{begun, span_of, improved, seeded, fallen, turned_down, risen, turn_of}
 use Rattle.search.specs.Searching.{Passed, Even, WayUp, Known, WayDown, Seed, Searching, left}
 use Rattle.search.proofs.FlowLaws.{and_true}
 use Rattle.search.proofs.SpanLaws.{length_was}
@@ -24,7 +25,7 @@ use Rattle.search.proofs.Ways.{up_start, up_found, up_none, up_next, down_begin,
 module _ (Top : ℕ → Type 0) (g : ℕ → ℕ) where
   -- ---- how a search begins
   -- on the way up, where the least length of g is a top
-  pub begun_stands : ((l : ℕ) → least_length g ≡ some l → Top l) → Searching Top g begun
+  pub begun_stands : ((l : ℕ) → least_length g ≡ Some l → Top l) → Searching Top g begun
   unfolding Searching begun
   begun_stands tops = (tops, up_start g, λ h. absurd (omega arith))
 
@@ -54,7 +55,7 @@ module _ (Top : ℕ → Type 0) (g : ℕ → ℕ) where
             rw (e, fallen) ((top, record { top = f.top; enough = f.enough; low = omega (arith, f.low); known = known_next g mono f.top d f.low is c known more }), omega arith)
 
     -- ---- from the way up to the way down
-    turned_keeps : (d : ℕ) (b : Best) (even : Bool) {work last : ℕ} → least_length g ≡ some (d + 1) → Top (d + 1) → Seed g b even → Passed g d work last
+    turned_keeps : (d : ℕ) (b : Best) (even : Bool) {work last : ℕ} → least_length g ≡ Some (d + 1) → Top (d + 1) → Seed g b even → Passed g d work last
         → Searching Top g (turned_down (d + 1) b even work last) × (left (turned_down (d + 1) b even work last) ≤ limit)
     unfolding Searching left turned_down cycle
     turned_keeps d b even {work} {last} least top seed is = go (even && ltb cycle (d + 1)) refl
@@ -76,7 +77,7 @@ module _ (Top : ℕ → Type 0) (g : ℕ → ℕ) where
             rw (e, turned_down) (z.0, low)
 
     -- ---- the way up
-    risen_keeps : (d : ℕ) (b : Best) (even : Bool) {work last : ℕ} → ((l : ℕ) → least_length g ≡ some l → Top l) → WayUp g d → Seed g b even → Passed g d work last
+    risen_keeps : (d : ℕ) (b : Best) (even : Bool) {work last : ℕ} → ((l : ℕ) → least_length g ≡ Some l → Top l) → WayUp g d → Seed g b even → Passed g d work last
         → Searching Top g (risen d b even work last) × (left (risen d b even work last) < limit + limit + 1 - d)
     unfolding Searching left risen
     risen_keeps d b even {work} {last} tops r seed is = go (leb work (d + 1)) refl (ltb limit work) refl
@@ -106,35 +107,36 @@ module _ (Top : ℕ → Type 0) (g : ℕ → ℕ) where
         go false e = rw e (h (omega (arith, eqb-false d 0 e)))
 
     -- ---- the whole turn
-    pub turn_keeps : (s : Search) (t : Tally) → t.in_range ≡ true → goes_on s ≡ true → Searching Top g s → Passed g (span_of s) t.work t.last
-        → (span_of s ≡ 0 → t.even ≡ true → Even g) → Searching Top g (turn_of s t) × (left (turn_of s t) < left s)
-    unfolding Searching left turn_of goes_on span_of
+    pub turn_keeps : (s : Search) (t : Tally) (d : ℕ) → span_of s ≡ Some d → Searching Top g s → Passed g d t.work t.last
+        → (d ≡ 0 → t.even ≡ true → Even g) → Searching Top g (turn_of s (Some t)) × (left (turn_of s (Some t)) < left s)
+    unfolding Searching left turn_of span_of
     turn_keeps (Rising d b even) t e on h is first =
-        let z = risen_keeps d (seeded d t.work b) (pick (eqb d 0) t.even even) h.0 h.1 (seeded_is d b t.even even h.2 first is) is in
-        rw (e, turn_of) z
+        let same : e ≡ d = sym (same_Some d e on) in
+        let passed = rw same at is in
+        risen_keeps d (seeded d t.work b) (pick (eqb d 0) t.even even) h.0 h.1 (seeded_is d b t.even even h.2 (rw same at first) passed) passed
     turn_keeps (Falling l d b) t e on h is first =
-        let z = fallen_keeps l d b h.0 h.1 is in
-        let less : left (fallen l b t.work t.last) < d + 1 = omega (arith, z.1) in
-        rw (e, turn_of) (z.0, less)
-    turn_keeps (Served l b) t e on h is first = absurd (false≢true on)
-    turn_keeps Endless t e on h is first = absurd (false≢true on)
-    turn_keeps OutOfRange t e on h is first = absurd (false≢true on)
+        let same : e ≡ d = sym (same_Some d e on) in
+        let z = fallen_keeps l d b h.0 h.1 (rw same at is) in
+        (z.0, omega (arith, z.1))
+    turn_keeps (Served l b) t e on h is first = absurd (none-some e on)
+    turn_keeps Endless t e on h is first = absurd (none-some e on)
+    turn_keeps OutOfRange t e on h is first = absurd (none-some e on)
 
 -- ---- of any search
 -- a pass that finds a flow out of range ends it
-pub turn_out : (s : Search) (t : Tally) → t.in_range ≡ false → goes_on s ≡ true → turn_of s t ≡ OutOfRange
-unfolding turn_of goes_on
-turn_out (Rising d b even) t e on = rw (e, turn_of)
-turn_out (Falling l d b) t e on = rw (e, turn_of)
-turn_out (Served l b) t e on = absurd (false≢true on)
-turn_out Endless t e on = absurd (false≢true on)
-turn_out OutOfRange t e on = absurd (false≢true on)
+pub turn_out : (s : Search) (d : ℕ) → span_of s ≡ Some d → turn_of s None ≡ OutOfRange
+unfolding turn_of span_of
+turn_out (Rising d b even) e on = refl
+turn_out (Falling l d b) e on = refl
+turn_out (Served l b) e on = absurd (none-some e on)
+turn_out Endless e on = absurd (none-some e on)
+turn_out OutOfRange e on = absurd (none-some e on)
 
 -- and while it goes on there is something left
-pub left_some : (s : Search) → goes_on s ≡ true → span_of s < limit → 0 < left s
-unfolding goes_on span_of left
-left_some (Rising d b even) on low = omega arith
-left_some (Falling l d b) on low = omega arith
-left_some (Served l b) on low = absurd (false≢true on)
-left_some Endless on low = absurd (false≢true on)
-left_some OutOfRange on low = absurd (false≢true on)
+pub left_some : (s : Search) (d : ℕ) → span_of s ≡ Some d → d < limit → 0 < left s
+unfolding span_of left
+left_some (Rising d b even) e on low = omega (arith, same_Some d e on)
+left_some (Falling l d b) e on low = omega arith
+left_some (Served l b) e on low = absurd (none-some e on)
+left_some Endless e on low = absurd (none-some e on)
+left_some OutOfRange e on low = absurd (none-some e on)

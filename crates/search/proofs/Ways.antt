@@ -2,12 +2,12 @@
 -- Assumes nothing.
 use Prim.Native.Nat.{ℕ, zero, suc, ◌+◌, ◌-◌, ◌≤◌, ◌<◌, min}
 use mathlib.Core.Logic.{◌⊎◌, inl, inr, ⊎_elim}
-use mathlib.Core.Option.{none, some}
+use Rattle.std.specs.Prelude.{None, Some}
 use mathlib.Core.Path.{◌≡◌, sym, ap, ◌∙◌}
 use native.Mathlib.Nat.{eq-or-lt_of_le}
 use native.Mathlib.Omega.{arith}
 use borrow.Author.Tests.{lt-ltb, le-ltb}
-use Rattle.search.specs.declared.Best.{Best}
+use Rattle.search.specs.declared.turns.Best.{Best}
 use Rattle.search.specs.Spans.{limit, Monotone, least_length, excess, least_span}
 use Rattle.search.specs.Searching.{Passed, WayUp, NoBetter, Known, Enough, WayDown}
 use Rattle.search.specs.Turn.{improved}
@@ -23,12 +23,12 @@ module _ (g : ℕ → ℕ) (mono : Monotone g) (x : ℕ) {work last : ℕ} (is :
   fails_to : (n : ℕ) → n < work → (e : ℕ) → e < n → suc e < g e
   fails_to n l e h = ⊎_elim (λ (a : e < x). r.fails e a) (λ (a : x ≤ e). omega (arith, is.work_is, mono x e a)) (lt_or_ge e x)
 
-  pub up_found : work ≤ x + 1 → least_length g ≡ some (x + 1)
+  pub up_found : work ≤ x + 1 → least_length g ≡ Some (x + 1)
   up_found h =
       let same : suc x ≡ x + 1 = omega arith in
-      length_is g limit x r.low (omega (arith, is.work_is)) r.fails ∙ ap some same
+      length_is g limit x r.low (omega (arith, is.work_is)) r.fails ∙ ap Some same
 
-  pub up_none : limit < work → least_length g ≡ none
+  pub up_none : limit < work → least_length g ≡ None
   up_none h = length_none g limit (fails_to limit h)
 
   pub up_next : x + 1 < work → work ≤ limit → WayUp g (work - 1)
@@ -110,7 +110,7 @@ module _ (g : ℕ → ℕ) (mono : Monotone g) (top d : ℕ) (low : d < top) {wo
             at_least (inl u) =
                 let m : min last b.span ≡ last = omega arith in
                 rw m (⊎_elim
-                (λ (some : 0 < b.figure). omega (arith, is.work_is, is.last_same))
+                (λ (Some : 0 < b.figure). omega (arith, is.work_is, is.last_same))
                 (λ (z : b.span ≡ 0). absurd (omega arith))
                 (figure_or_nought g b k.nought))
             at_least (inr u) = let m : min last b.span ≡ b.span = omega arith in rw m k.reached
@@ -149,7 +149,7 @@ module _ (g : ℕ → ℕ) (mono : Monotone g) (top d : ℕ) (low : d < top) {wo
           beyond e a s = let m : g e ≤ work = omega (arith, is.work_is, mono e d (omega (arith, is.last_low))) in (omega arith, λ eq. absurd (omega arith))
 
     -- and what is known of the spans below `top` is known of all below l
-    pub down_end : work ≤ b.figure → (l : ℕ) → Enough g top l → (b.figure ≡ excess g l) × (least_span g l ≡ some b.span)
+    pub down_end : work ≤ b.figure → (l : ℕ) → Enough g top l → (b.figure ≡ excess g l) × (least_span g l ≡ Some b.span)
     down_end h l enough =
         let all = known_end h in
         let inside : b.span < l = omega (arith, all.span_low, enough.no_longer) in

@@ -2,7 +2,7 @@
 -- Assumes nothing.
 use Rattle.std.specs.Prelude.{ℕ, ◌+◌, ◌/◌, Bool, ◌&&◌, leb}
 use Rattle.base.specs.Pick.{within}
-use Rattle.search.specs.declared.Flow.{Flow}
+use Rattle.search.specs.declared.pass.Flow.{Flow}
 
 -- "In a span of d ticks, both end ticks counted, a flow brings at most (d + J) / T rounded down, plus 1."
 unfoldable pub most : Flow → ℕ → ℕ

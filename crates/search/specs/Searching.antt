@@ -1,10 +1,9 @@
 -- What is known where a search stands, for any function g of the span that grows with it.
 -- Nothing here has to be believed: no public contract of a station speaks of it. Assumes nothing.
-use Rattle.std.specs.Prelude.{ℕ, suc, ◌+◌, ◌-◌, ◌≤◌, ◌<◌, Bool, true, ◌≡◌}
-use Rattle.std.proofs.Math.Option.{none, some}
-use Rattle.search.specs.declared.Best.{Best}
-use Rattle.search.specs.declared.Search.{Search}
-use Rattle.search.specs.declared.Search.TheVariants.{Rising, Falling, Served, Endless, OutOfRange}
+use Rattle.std.specs.Prelude.{ℕ, suc, ◌+◌, ◌-◌, ◌≤◌, ◌<◌, Bool, true, ◌≡◌, None, Some}
+use Rattle.search.specs.declared.turns.Best.{Best}
+use Rattle.search.specs.declared.turns.Search.{Search}
+use Rattle.search.specs.declared.turns.Search.TheVariants.{Rising, Falling, Served, Endless, OutOfRange}
 use Rattle.search.specs.Spans.{limit, least_length, excess, least_span}
 use Rattle.search.specs.Pass.{cycle}
 
@@ -55,10 +54,10 @@ Seed g b even = (b.figure ≡ g 0) × (b.span ≡ 0) × (even ≡ true → Even 
 -- the least length of g, while a search that begins on the way down may do so at any length.
 -- At its end the search has the length, the greatest excess below it and the least span that gives it; or there is no length.
 unfoldable pub Searching : (ℕ → Type 0) → (ℕ → ℕ) → Search → Type 0
-Searching Top g (Rising d b even) = ((l : ℕ) → least_length g ≡ some l → Top l) × WayUp g d × (0 < d → Seed g b even)
+Searching Top g (Rising d b even) = ((l : ℕ) → least_length g ≡ Some l → Top l) × WayUp g d × (0 < d → Seed g b even)
 Searching Top g (Falling l d b) = Top l × WayDown g l d b
-Searching Top g (Served l b) = Top l × (b.figure ≡ excess g l) × (least_span g l ≡ some b.span)
-Searching Top g Endless = least_length g ≡ none
+Searching Top g (Served l b) = Top l × (b.figure ≡ excess g l) × (least_span g l ≡ Some b.span)
+Searching Top g Endless = least_length g ≡ None
 Searching Top g OutOfRange = ⊥
 
 -- what is left of the search: a number that falls with each turn

@@ -1,8 +1,7 @@
 -- Any function g of the span: how much work a span of d ticks can bring. The least length
 -- that g serves, the greatest g d − d below a length, and the least d that gives it.
 -- The flows' sum is one such function; nothing here speaks of flows. Assumes nothing.
-use Rattle.std.specs.Prelude.{ℕ, ◌-◌, ◌≤◌, leb, eqb}
-use Rattle.std.proofs.Math.Option.{Option}
+use Rattle.std.specs.Prelude.{ℕ, ◌-◌, ◌≤◌, leb, eqb, Option}
 use Rattle.base.specs.Least.{least_from, greatest_below}
 
 -- 01, One station: a length is "from 1 to 125,000,000"

@@ -1,11 +1,11 @@
--- What one turn makes of a search, given what a pass has found: the work that a span brings, and the tick of the last arrival in it.
+-- What one turn makes of a search, given what a pass has found: the work that a span brings, and the tick of the last arrival in it; or that a flow is out of range.
 -- Nothing here has to be believed: no public contract of a station speaks of it. Assumes nothing.
-use Rattle.std.specs.Prelude.{ℕ, ◌+◌, ◌-◌, min, Bool, true, false, ◌&&◌, leb, ltb, eqb}
+use Rattle.std.specs.Prelude.{ℕ, ◌+◌, ◌-◌, min, Bool, false, ◌&&◌, leb, ltb, eqb, Option, None, Some}
 use Rattle.base.specs.Pick.{pick}
-use Rattle.search.specs.declared.Tally.{Tally}
-use Rattle.search.specs.declared.Best.{Best}
-use Rattle.search.specs.declared.Search.{Search}
-use Rattle.search.specs.declared.Search.TheVariants.{Rising, Falling, Served, Endless, OutOfRange}
+use Rattle.search.specs.declared.pass.Tally.{Tally}
+use Rattle.search.specs.declared.turns.Best.{Best}
+use Rattle.search.specs.declared.turns.Search.{Search}
+use Rattle.search.specs.declared.turns.Search.TheVariants.{Rising, Falling, Served, Endless, OutOfRange}
 use Rattle.search.specs.Spans.{limit}
 use Rattle.search.specs.Pass.{cycle}
 
@@ -13,21 +13,13 @@ use Rattle.search.specs.Pass.{cycle}
 unfoldable pub begun : Search
 begun = Rising 0 (record { figure = 0; span = 0 }) false
 
--- it goes on while it is on one of its ways
-unfoldable pub goes_on : Search → Bool
-goes_on (Rising d b even) = true
-goes_on (Falling l d b) = true
-goes_on (Served l b) = false
-goes_on Endless = false
-goes_on OutOfRange = false
-
--- the span of the next pass
-unfoldable pub span_of : Search → ℕ
-span_of (Rising d b even) = d
-span_of (Falling l d b) = d
-span_of (Served l b) = 0
-span_of Endless = 0
-span_of OutOfRange = 0
+-- the span of the next pass; none where the search is at its end
+unfoldable pub span_of : Search → Option ℕ
+span_of (Rising d b even) = Some d
+span_of (Falling l d b) = Some d
+span_of (Served l b) = None
+span_of Endless = None
+span_of OutOfRange = None
 
 -- the best once a pass has found this work, which has been there since the tick `last`
 unfoldable pub improved : Best → ℕ → ℕ → Best
@@ -55,11 +47,12 @@ risen d b even work last =
     (pick (leb work (d + 1)) (turned_down (d + 1) b even work last)
     (pick (ltb limit work) Endless (Rising (work - 1) b even)))
 
--- one turn; a search at its end stays there
-unfoldable pub turn_of : Search → Tally → Search
-turn_of (Rising d b even) t =
-    pick t.in_range (risen d (seeded d t.work b) (pick (eqb d 0) t.even even) t.work t.last) OutOfRange
-turn_of (Falling l d b) t = pick t.in_range (fallen l b t.work t.last) OutOfRange
+-- one turn, given what a pass has found: none where a flow is out of range. A search at its end stays there
+unfoldable pub turn_of : Search → Option Tally → Search
+turn_of (Rising d b even) (Some t) = risen d (seeded d t.work b) (pick (eqb d 0) t.even even) t.work t.last
+turn_of (Rising d b even) None = OutOfRange
+turn_of (Falling l d b) (Some t) = fallen l b t.work t.last
+turn_of (Falling l d b) None = OutOfRange
 turn_of (Served l b) t = Served l b
 turn_of Endless t = Endless
 turn_of OutOfRange t = OutOfRange

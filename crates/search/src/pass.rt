@@ -1,95 +1,94 @@
 // One pass over the flows, for a span of d ticks: one flow more, and whether each is in range.
 // The ranges bound what a flow brings, so that no sum wraps.
-ghost use Rattle.std.specs.Prelude.{◌≡◌, true, ◌&&◌, ◌<◌, ◌^◌, eqb};
+ghost use Rattle.std.specs.Prelude.{◌≡◌, true, ◌&&◌, ◌<◌, eqb};
 ghost use Rattle.base.specs.Pick.{pick};
 ghost use Rattle.search.specs.Flows.{in_range};
-ghost use Rattle.search.specs.Spans.{limit};
-ghost use Rattle.search.specs.Pass.{evenly, taken, with_flow, add_to};
+ghost use Rattle.search.specs.Pass.{evenly, taken, empty_tally, with_flow, add_to};
 
 use crate::compare::{greater, less};
 use crate::turns::{CYCLE, LIMIT};
-use crate::{Flow, Tally};
 
 // Work of 2^63 or more is not added to; 1,024 flows in range bring far less within the limit.
 const MOST_WORK: u64 = 9_223_372_036_854_775_808;
 
-// Whether a flow is in range.
-fn in_range(f: Flow) -> bool
-    ensures { result ≡ in_range f }
-{
-    if f.period < 12_500 {
-        return false;
-    }
-    if 125_000_000 < f.period {
-        return false;
-    }
-    if 2_000_000_000 < f.jitter {
-        return false;
-    }
-    if f.cost < 1 {
-        return false;
-    }
-    f.cost <= 4_000_000_000
+// What one kind of message brings: at most one in a period, save that each may come up to a jitter late.
+#[derive(Clone, Copy)]
+pub struct Flow {
+    pub period: u64,
+    pub jitter: u64,
+    pub cost: u64,
 }
 
-// Whether a flow can be added: it and all before it are in range, and so are the span and the work so far.
-fn takes(a: Tally, f: Flow, d: u64) -> bool
-    ensures { result ≡ taken a f d }
-{
-    let before = a.in_range;
-    if !before {
-        return false;
+impl Flow {
+    // Whether a flow is in range.
+    #[tactic(auto, unfolding(crate::specs::Flows::in_range))]
+    fn in_range(self) -> bool
+        ensures { result ≡ in_range self }
+    {
+        matches!(self.period, 12_500..=125_000_000)
+            && self.jitter <= 2_000_000_000
+            && matches!(self.cost, 1..=4_000_000_000)
     }
-    if LIMIT <= d {
-        return false;
-    }
-    if MOST_WORK <= a.work {
-        return false;
-    }
-    in_range(f)
 }
 
-// Whether a period divides the cycle too. Later passes do not pay for the division.
-fn still_even(even: bool, period: u64, d: u64) -> bool
-    requires { 0 < period }
-    ensures { result ≡ pick (eqb d 0) (even && evenly period) even }
-{
-    if d == 0 {
-        if even {
-            return CYCLE % period == 0;
+// What a pass finds of flows in range.
+#[derive(Clone, Copy)]
+pub struct Tally {
+    // the work that they bring
+    pub work: u64,
+    // the tick of the last arrival
+    pub last: u64,
+    // whether each period divides the cycle; only a pass for a span of 0 looks
+    pub even: bool,
+}
+
+impl Tally {
+    // The tally of no flows.
+    pub fn empty() -> Tally
+        ensures { result ≡ empty_tally }
+    {
+        Tally {
+            work: 0,
+            last: 0,
+            even: true,
         }
     }
-    even
-}
 
-// Adds a flow that can be added.
-fn step(a: Tally, f: Flow, d: u64) -> Tally
-    requires { (in_range f ≡ true) × (d < limit) × (a.work < 2 ^ 63) }
-    ensures { result ≡ with_flow a f d }
-{
-    let q = (d + f.jitter) / f.period;
-    let work = a.work + (q + 1) * f.cost;
-    let last = greater(a.last, less(q * f.period, f.jitter));
-    let even = still_even(a.even, f.period, d);
-    Tally {
-        in_range: true,
-        work,
-        last,
-        even,
+    // Adds a flow to the tally of those before it; none where it is out of range, or the span or the work so far.
+    #[tactic(auto, unfolding(crate::specs::Pass::add_to, crate::specs::Pass::taken, crate::specs::Spans::limit))]
+    pub fn add(self, flow: Flow, d: u64) -> Option<Tally>
+        ensures { result ≡ add_to self flow d }
+    {
+        if d < LIMIT && self.work < MOST_WORK && flow.in_range() {
+            Some(self.with_flow(flow, d))
+        } else {
+            None
+        }
     }
-}
 
-// Adds a flow to the tally of those before it.
-pub fn add(a: Tally, f: Flow, d: u64) -> Tally
-    ensures { result ≡ add_to a f d }
-{
-    if takes(a, f, d) {
-        return step(a, f, d);
+    #[tactic(auto, using(crate::proofs::PassLaws::taken_was), unfolding(crate::specs::Pass::with_flow, crate::specs::Flows::most, crate::specs::Pass::last_of))]
+    fn with_flow(self, flow: Flow, d: u64) -> Tally
+        requires { taken self flow d ≡ true }
+        ensures { result ≡ with_flow self flow d }
+    {
+        let q = (d + flow.jitter) / flow.period;
+        Tally {
+            work: self.work + (q + 1) * flow.cost,
+            last: greater(self.last, less(q * flow.period, flow.jitter)),
+            even: self.still_even(flow.period, d),
+        }
     }
-    Tally {
-        in_range: false,
-        work: a.work,
-        last: a.last,
-        even: a.even,
+
+    // Whether a period divides the cycle too. Later passes do not pay for the division.
+    #[tactic(auto, unfolding(crate::specs::Pass::evenly, crate::specs::Pass::cycle))]
+    fn still_even(self, period: u64, d: u64) -> bool
+        requires { 0 < period }
+        ensures { result ≡ pick (eqb d 0) (self.even && evenly period) self.even }
+    {
+        if d == 0 {
+            self.even && CYCLE % period == 0
+        } else {
+            self.even
+        }
     }
 }

@@ -1,7 +1,6 @@
 -- 01, One station: "Offered by itself, it refuses 4 for .., then 10 for no busy length": what the station answers to any list of flows.
 -- Queues and ports of an accepted table are never refused so; no demand on tables reaches these. Assumes nothing.
-use Rattle.std.specs.Prelude.{ℕ, ◌-◌, Bool, true, ◌&&◌, List, [], ◌∷◌, leb, eqb, length}
-use Rattle.std.proofs.Math.Option.{Option, none, some}
+use Rattle.std.specs.Prelude.{ℕ, ◌-◌, Bool, true, ◌&&◌, List, [], ◌∷◌, leb, eqb, length, Option, None, Some}
 use Rattle.base.specs.Least.{least_from}
 use Rattle.base.specs.Pick.{pick}
 use Rattle.base.specs.Tests.{number_or0}
@@ -24,8 +23,8 @@ offered fs = leb (length fs) most_flows && all_in_range fs
 
 -- ".. then 10 for no busy length (section and row 0; length and figure 0)."
 unfoldable pub served_says : List Flow → Option ℕ → Said
-served_says fs none = refused 10 (0 ∷ 0 ∷ [])
-served_says fs (some l) = accepted (l ∷ figure fs l ∷ [])
+served_says fs None = refused 10 (0 ∷ 0 ∷ [])
+served_says fs (Some l) = accepted (l ∷ figure fs l ∷ [])
 
 -- the station's answer, with length and figure as its values
 unfoldable pub station_says : List Flow → Said
@@ -33,8 +32,8 @@ station_says fs = pick (offered fs) (served_says fs (busy_length fs)) (refused 4
 
 -- the least span d that gives the figure, so that (sum of the most arrivals in d × C) − d is the figure; 0 where there is no busy length
 unfoldable pub served_span : List Flow → Option ℕ → ℕ
-served_span fs none = 0
-served_span fs (some l) = number_or0 (least_from (λ d. eqb (brought fs d - d) (figure fs l)) 0 l)
+served_span fs None = 0
+served_span fs (Some l) = number_or0 (least_from (λ d. eqb (brought fs d - d) (figure fs l)) 0 l)
 
 -- and of any list of flows: 0 where it is refused
 unfoldable pub span_says : List Flow → ℕ
