@@ -23,13 +23,13 @@ middle s a o w e =
     rw (field_add s a (o + w) e, high (field_at s a (o + w)) e (field_lt s (a + (o + w)) e), field_add s a o w)
     (low (field_at s a o) w (field_lt s (a + o) w))
 
--- the number of the bytes from f to before k, and one byte more
-pub byte_more : (s : List ℕ) (f k : ℕ) → f ≤ k → get_or s k 0 < 256
-    → field_at s (8 * f) (8 * (k + 1 - f)) ≡ field_at s (8 * f) (8 * (k - f)) * 256 + get_or s k 0
-byte_more s f k h l =
-    let e : 8 * (k + 1 - f) ≡ 8 * (k - f) + 8 = omega arith in
-    let g : 8 * f + 8 * (k - f) ≡ 8 * k = omega arith in
-    rw (e, field_add s (8 * f) (8 * (k - f)) 8, g, byte_field s k l)
+-- the number of the first k bytes from byte f on, and one byte more
+pub byte_more : (s : List ℕ) (f k : ℕ) → get_or s (f + k) 0 < 256
+    → field_at s (8 * f) (8 * (k + 1)) ≡ field_at s (8 * f) (8 * k) * 256 + get_or s (f + k) 0
+byte_more s f k l =
+    let e : 8 * (k + 1) ≡ 8 * k + 8 = omega arith in
+    let g : 8 * f + 8 * k ≡ 8 * (f + k) = omega arith in
+    rw (e, field_add s (8 * f) (8 * k) 8, g, byte_field s (f + k) l)
 
 -- the field of w bits from bit a on, out of the bytes from f to before t, among which it stands
 pub field_of_bytes : (s : List ℕ) (a w f t : ℕ) → 8 * f ≤ a → a + w ≤ 8 * t

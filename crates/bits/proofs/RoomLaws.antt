@@ -1,13 +1,12 @@
 -- The test for room and what it tests: three bounds, so that who knows them has the plain field, and who fails one has none.
 -- Assumes nothing.
 use mathlib.Core.Path.{◌≡◌, ap}
-use mathlib.Core.Bool.{true, false, ◌&&◌, and-eq-true_iff, and-false}
+use mathlib.Core.Bool.{true, false, ◌&&◌, and-eq-true_iff}
 use mathlib.Core.List.{List}
-use Prim.Native.Nat.{ℕ, ◌+◌, ◌*◌, ◌^◌, ◌≤◌, ◌<◌}
+use Prim.Native.Nat.{ℕ, ◌+◌, ◌*◌, ◌^◌}
 use lib.Dec.{leb}
 use lib.ListN.{length}
-use borrow.Author.Tests.{leb-true, le-leb, lt-leb}
-use Rattle.base.proofs.Tests.{same_test}
+use borrow.Author.Tests.{leb-true, le-leb}
 use Rattle.bits.specs.declared.Cursor.{Cursor}
 use Rattle.bits.specs.declared.Field.{Field}
 use Rattle.bits.specs.Bits.{field_at, put_at}
@@ -24,23 +23,6 @@ room_was s a w e =
 pub room_yes : (s : List ℕ) (a w : ℕ) → Room s a w → room (length s) a w ≡ true
 unfolding room
 room_yes s a w r = rw (le-leb w 32 r.narrow, le-leb (length s) (2 ^ 32) r.short, le-leb (a + w) (8 * length s) r.inside)
-
-pub too_wide : (n a w : ℕ) → 32 < w → room n a w ≡ false
-unfolding room
-too_wide n a w h = rw (lt-leb w 32 h)
-
-pub too_long : (n a w : ℕ) → 2 ^ 32 < n → room n a w ≡ false
-unfolding room
-too_long n a w h = rw (lt-leb n (2 ^ 32) h) (and-false (leb w 32))
-
-pub too_short_lem : (n a w : ℕ) → w ≤ 32 → n ≤ 2 ^ 32 → 8 * n < a + w → room n a w ≡ false
-unfolding room
-too_short_lem n a w h k l = rw (le-leb w 32 h, le-leb n (2 ^ 32) k, lt-leb (a + w) (8 * n) l)
-
--- where width and length pass, a place passes that is no later than the last for such a field
-pub last_place : (n a w l : ℕ) → w ≤ 32 → n ≤ 2 ^ 32 → (a ≤ l → a + w ≤ 8 * n) → (a + w ≤ 8 * n → a ≤ l) → leb a l ≡ room n a w
-unfolding room
-last_place n a w l h k f g = rw (le-leb w 32 h, le-leb n (2 ^ 32) k) (same_test a l (a + w) (8 * n) f g)
 
 -- ---- where there is room
 pub place_of : (s : List ℕ) (a w : ℕ) → Room s a w → next_place s a w ≡ record { at = a + w }

@@ -7,13 +7,13 @@ ghost use Rattle.bits.specs.Bits.{with_digit, put_bit, field_at, put_at};
 ghost use Rattle.bits.specs.Place.{Room, room, next_place, field_of, put_of};
 
 // A place in a list of bytes, counted in bits.
-#[derive(Clone, Copy)]
+#[derive(Clone, Copy, PartialEq, Eq, Debug)]
 pub struct Cursor {
     pub at: usize,
 }
 
 // A field, and the place where the next begins.
-#[derive(Clone, Copy)]
+#[derive(Clone, Copy, PartialEq, Eq, Debug)]
 pub struct Field {
     pub value: u64,
     pub next: Cursor,
@@ -30,13 +30,12 @@ impl Cursor {
     pub fn read(self, s: &[u8], w: usize) -> Field
         ensures { result ≡ field_of s.now self.at w }
     {
-        let at = self.at;
-        if has_room(s.len(), at, w) {
+        if has_room(s.len(), self.at, w) {
             self.take(s, w)
         } else {
             Field {
                 value: 0,
-                next: Cursor { at },
+                next: self,
             }
         }
     }
@@ -45,11 +44,10 @@ impl Cursor {
     pub fn put(self, s: &mut [u8], w: usize, v: u64) -> Cursor
         ensures { (result ≡ next_place s.old self.at w) × (s.new ≡ put_of s.old self.at w v) }
     {
-        let at = self.at;
-        if has_room(s.len(), at, w) {
+        if has_room(s.len(), self.at, w) {
             self.write(s, w, v)
         } else {
-            Cursor { at }
+            self
         }
     }
 
@@ -58,10 +56,9 @@ impl Cursor {
         requires { Room s.now self.at w }
         ensures { (result.value ≡ field_at s.now self.at w) × (result.next.at ≡ self.at + w) }
     {
-        let at = self.at;
-        let end = at + w;
+        let end = self.at + w;
         let to = (end + 7) / 8;
-        let v = gather(s, at / 8, to);
+        let v = gather(s, self.at / 8, to);
         let behind = 7 - (end + 7) % 8;
         Field {
             value: v / weight(behind) % weight(w),
@@ -74,31 +71,20 @@ impl Cursor {
         requires { Room s.old self.at w }
         ensures { (result.at ≡ self.at + w) × (s.new ≡ put_at s.old self.at w v) }
     {
-        let at = self.at;
-        let mut i: usize = 0;
-        while i < w {
+        for i in 0..w {
             let p = w - 1 - i;
-            put_bit(s, at + i, (v >> p) % 2);
-            i += 1;
+            put_bit(s, self.at + i, (v >> p) % 2);
         }
-        Cursor { at: at + w }
+        Cursor { at: self.at + w }
     }
 }
 
 // Whether a list of n bytes has a field of w bits from bit at on.
+#[tactic(auto, using(std::proofs::lemmas::Bool::Decides::nat_tests), unfolding(crate::specs::Place::room))]
 fn has_room(n: usize, at: usize, w: usize) -> bool
     ensures { result ≡ room n at w }
 {
-    if 32 < w {
-        return false;
-    }
-    if 4_294_967_296 < n {
-        return false;
-    }
-    if 8 * n < w {
-        return false;
-    }
-    at <= 8 * n - w
+    w <= 32 && n <= 4_294_967_296 && at <= 8 * n && at + w <= 8 * n
 }
 
 // The bytes from one to before another as one number: five at most, which is what a field of 32 bits touches.
@@ -107,14 +93,13 @@ fn gather(s: &[u8], from: usize, to: usize) -> u64
     ensures { result ≡ field_at s.now (8 * from) (8 * (to - from)) }
 {
     let mut v: u64 = 0;
-    let mut k = from;
-    while k < to {
-        v = v * 256 + s[k] as u64;
-        k += 1;
+    for &byte in &s[from..to] {
+        v = v * 256 + byte as u64;
     }
     v
 }
 
+#[tactic(auto, unfolding(crate::specs::Bits::put_bit))]
 fn put_bit(s: &mut [u8], i: usize, b: u64)
     requires { (i < 8 * length s.old) × (b < 2) }
     ensures { s.new ≡ put_bit s.old i b }

@@ -3,7 +3,7 @@
 use mathlib.Core.Path.{◌≡◌, refl, sym, ap, ◌∙◌}
 use mathlib.Core.Bool.{Bool, true, false, ◌&&◌}
 use mathlib.Core.List.{List, [], ◌∷◌}
-use mathlib.Core.Option.{none, some}
+use Rattle.std.specs.Prelude.{None, Some}
 use Prim.Native.Nat.{ℕ, ◌^◌, ◌<◌}
 use native.Mathlib.Decide.{dec_lt}
 use native.Mathlib.Omega.{arith}
@@ -87,7 +87,7 @@ module _ (way : Way) (kind : ℕ) (row : List ℕ) (f : Faultless way kind row) 
       (rw (l, g) h.0, still_ordered os (right pair (numbered (layout kind) os) t) h.1)
 
   -- where each field gives its number back
-  module _ (back : Way) (gives_back : (k : ℕ) → k < length (layout kind) → convert back (get_or (layout kind) k blank) (get_or there k 0) ≡ some (get_or row k 0)) where
+  module _ (back : Way) (gives_back : (k : ℕ) → k < length (layout kind) → convert back (get_or (layout kind) k blank) (get_or there k 0) ≡ Some (get_or row k 0)) where
     back_at : (k : ℕ) → k < length (layout kind) → get_or (converted back (layout kind) there) k 0 ≡ get_or row k 0
     unfolding number_or0
     back_at k h = converted_at back (layout kind) there k h ∙ ap number_or0 (gives_back k h)
@@ -97,14 +97,14 @@ module _ (way : Way) (kind : ℕ) (row : List ℕ) (f : Faultless way kind row) 
         let n = length_converted back (layout kind) there in
         ext_get_or 0 (converted back (layout kind) there) row (n ∙ sym long) (λ k h. back_at k (rw n at h))
 
-    faultless_back : row_fault back kind there ≡ none
+    faultless_back : row_fault back kind there ≡ None
     faultless_back = no_fault back kind there record {
-      fields = λ k h. gives_back k h ∙ ap some (sym (back_at k h));
+      fields = λ k h. gives_back k h ∙ ap Some (sym (back_at k h));
       ordered = still_ordered (orders kind) (pairs_numbered kind) f.ordered;
     }
 
 -- ---- what was read, written again: the table is not changed by unpacking and writing
-module _ (kind : ℕ) (raw : List ℕ) (ok : row_fault Reading kind raw ≡ none) (fit : Fit (widths kind) raw) where
+module _ (kind : ℕ) (raw : List ℕ) (ok : row_fault Reading kind raw ≡ None) (fit : Fit (widths kind) raw) where
   f : Faultless Reading kind raw
   f = faultless Reading kind raw ok
 
@@ -112,7 +112,7 @@ module _ (kind : ℕ) (raw : List ℕ) (ok : row_fault Reading kind raw ≡ none
   long = fit_length (widths kind) raw fit ∙ length_widths kind
 
   stored_back : (k : ℕ) → k < length (layout kind)
-      → convert Writing (get_or (layout kind) k blank) (get_or (converted Reading (layout kind) raw) k 0) ≡ some (get_or raw k 0)
+      → convert Writing (get_or (layout kind) k blank) (get_or (converted Reading (layout kind) raw) k 0) ≡ Some (get_or raw k 0)
   stored_back k h =
       let narrow = rw (widths_at kind k) at (fit_at (widths kind) raw k fit (omega (arith, length_widths kind))) in
       write_after_read (get_or (layout kind) k blank) (get_or raw k 0) (get_or (converted Reading (layout kind) raw) k 0) narrow (f.fields k h)
@@ -120,17 +120,17 @@ module _ (kind : ℕ) (raw : List ℕ) (ok : row_fault Reading kind raw ≡ none
   pub read_written : converted Writing (layout kind) (converted Reading (layout kind) raw) ≡ raw
   read_written = row_back Reading kind raw f Writing stored_back long
 
-  pub read_writable : row_fault Writing kind (converted Reading (layout kind) raw) ≡ none
+  pub read_writable : row_fault Writing kind (converted Reading (layout kind) raw) ≡ None
   read_writable = faultless_back Reading kind raw f Writing stored_back
 
 -- ---- what was written, read again: the lists come back
-module _ (kind : ℕ) (vs : List ℕ) (ok : row_fault Writing kind vs ≡ none) where
+module _ (kind : ℕ) (vs : List ℕ) (ok : row_fault Writing kind vs ≡ None) where
   g : Faultless Writing kind vs
   g = faultless Writing kind vs ok
 
   meant_back : (k : ℕ) → k < length (layout kind)
       → (get_or (converted Writing (layout kind) vs) k 0 < 2 ^ (get_or (layout kind) k blank).width)
-      × (convert Reading (get_or (layout kind) k blank) (get_or (converted Writing (layout kind) vs) k 0) ≡ some (get_or vs k 0))
+      × (convert Reading (get_or (layout kind) k blank) (get_or (converted Writing (layout kind) vs) k 0) ≡ Some (get_or vs k 0))
   meant_back k h = read_after_write (get_or (layout kind) k blank) (get_or vs k 0) (get_or (converted Writing (layout kind) vs) k 0) (sane_at kind k) (g.fields k h)
 
   -- what is written fits the fields
@@ -139,7 +139,7 @@ module _ (kind : ℕ) (vs : List ℕ) (ok : row_fault Writing kind vs ≡ none) 
       fit_of (widths kind) (converted Writing (layout kind) vs) (length_converted Writing (layout kind) vs ∙ sym (length_widths kind))
       (λ k h. rw (widths_at kind k) (meant_back k (omega (arith, length_widths kind))).0)
 
-  pub written_readable : row_fault Reading kind (converted Writing (layout kind) vs) ≡ none
+  pub written_readable : row_fault Reading kind (converted Writing (layout kind) vs) ≡ None
   written_readable = faultless_back Writing kind vs g Reading (λ k h. (meant_back k h).1)
 
   pub written_read : length vs ≡ length (layout kind) → converted Reading (layout kind) (converted Writing (layout kind) vs) ≡ vs

@@ -3,7 +3,7 @@
 use mathlib.Core.Path.{◌≡◌, refl, sym, ap, ap₂, ◌∙◌}
 use mathlib.Core.Bool.{Bool, true, false, not, false≢true}
 use mathlib.Core.List.{List, [], ◌∷◌, ◌++◌}
-use mathlib.Core.Option.{Option, none, some, map}
+use Rattle.std.specs.Prelude.{Option, None, Some, option_map}
 use Prim.Native.Nat.{ℕ, zero, suc, ◌+◌, ◌-◌, ◌≤◌, ◌<◌}
 use native.Mathlib.Decide.{dec_lt}
 use native.Mathlib.Nat.{not-suc-le-zero, le_of_suc-le-suc}
@@ -29,15 +29,15 @@ use Rattle.layout.proofs.ToldLaws.{some_told}
 abbrev pub Pass : List Bool → Type 0
 Pass ts = (i : ℕ) → get_or ts i true ≡ true
 
-failing_at : (ts : List Bool) (k : ℕ) → k < length ts → ((i : ℕ) → i < k → get_or ts i true ≡ true) → get_or ts k true ≡ false → first_failing ts ≡ some k
+failing_at : (ts : List Bool) (k : ℕ) → k < length ts → ((i : ℕ) → i < k → get_or ts i true ≡ true) → get_or ts k true ≡ false → first_failing ts ≡ Some k
 unfolding first_failing
 failing_at ts k h before e = least_is (λ i. not (get_or ts i true)) 0 (length ts) k (omega arith) (omega arith) (rw e) (λ i a b. rw (before i b))
 
-failing_none : (ts : List Bool) → Pass ts → first_failing ts ≡ none
+failing_none : (ts : List Bool) → Pass ts → first_failing ts ≡ None
 unfolding first_failing
 failing_none ts pass = least_none (λ i. not (get_or ts i true)) 0 (length ts) (λ i a b. rw (pass i))
 
-none_failing : (ts : List Bool) → first_failing ts ≡ none → Pass ts
+none_failing : (ts : List Bool) → first_failing ts ≡ None → Pass ts
 unfolding first_failing
 none_failing ts e i = go (dec_lt i (length ts))
   where
@@ -45,7 +45,7 @@ none_failing ts e i = go (dec_lt i (length ts))
     go (yes h) = not-false _ (none_was (λ i. not (get_or ts i true)) 0 (length ts) i e (omega arith) (omega arith))
     go (no n) = get_or-eq_default ts true (omega arith)
 
-failing_was : (ts : List Bool) (k : ℕ) → first_failing ts ≡ some k → (k < length ts) × (get_or ts k true ≡ false) × ((i : ℕ) → i < k → get_or ts i true ≡ true)
+failing_was : (ts : List Bool) (k : ℕ) → first_failing ts ≡ Some k → (k < length ts) × (get_or ts k true ≡ false) × ((i : ℕ) → i < k → get_or ts i true ≡ true)
 unfolding first_failing
 failing_was ts k e =
     let was = least_was (λ i. not (get_or ts i true)) 0 (length ts) k e in
@@ -62,12 +62,12 @@ module _ (ts us : List Bool) (pass : Pass ts) where
           let e : i ≡ length ts + (i - length ts) = omega arith in
           rw e (get_or-append-add ts us (i - length ts) true ∙ h (i - length ts) e)
 
-  failing_later : first_failing (ts ++ us) ≡ map (λ (i : ℕ). length ts + i) (first_failing us)
+  failing_later : first_failing (ts ++ us) ≡ option_map (λ (i : ℕ). length ts + i) (first_failing us)
   failing_later = go (first_failing us) refl
     where
-      go : (o : Option ℕ) → first_failing us ≡ o → first_failing (ts ++ us) ≡ map (λ (i : ℕ). length ts + i) o
-      go none e = failing_none (ts ++ us) (λ i. at_both i (λ j _. none_failing us e j))
-      go (some j) e =
+      go : (o : Option ℕ) → first_failing us ≡ o → first_failing (ts ++ us) ≡ option_map (λ (i : ℕ). length ts + i) o
+      go None e = failing_none (ts ++ us) (λ i. at_both i (λ j _. none_failing us e j))
+      go (Some j) e =
           let was = failing_was us j e in
           failing_at (ts ++ us) (length ts + j) (omega (arith, was.0, length-append ts us))
           (λ i l. at_both i (λ m f. was.2 m (omega arith)))
@@ -128,7 +128,7 @@ module _ (way : Way) (kind : ℕ) (row : List ℕ) where
       go (no n) = get_or-eq_default fields true {n = i} (omega (arith, length_field_tests way (layout kind) row))
 
   -- a field that is out of range, behind fields that are not, is the fault
-  pub fault_field : (k : ℕ) → k < length (layout kind) → GoodTo k → is_some (given k) ≡ false → row_fault way kind row ≡ some k
+  pub fault_field : (k : ℕ) → k < length (layout kind) → GoodTo k → is_some (given k) ≡ false → row_fault way kind row ≡ Some k
   unfolding row_fault_in
   fault_field k h good bad =
       let n = length_field_tests way (layout kind) row in
@@ -144,10 +144,10 @@ module _ (way : Way) (kind : ℕ) (row : List ℕ) where
   unfolding row_fault_in order_fault fields
   fault_order good =
       failing_later fields (order_tests (layout kind) (orders kind) row) (fields_pass good)
-      ∙ ap (λ (n : ℕ). map (λ (i : ℕ). n + i) (first_failing (order_tests (layout kind) (orders kind) row))) (length_field_tests way (layout kind) row)
+      ∙ ap (λ (n : ℕ). option_map (λ (i : ℕ). n + i) (first_failing (order_tests (layout kind) (orders kind) row))) (length_field_tests way (layout kind) row)
 
 -- ---- the fault of the pairs
-pub pairs_pass : (kind : ℕ) (row : List ℕ) → Ordered (layout kind) (orders kind) row → order_fault kind row ≡ none
+pub pairs_pass : (kind : ℕ) (row : List ℕ) → Ordered (layout kind) (orders kind) row → order_fault kind row ≡ None
 unfolding order_fault
 pairs_pass kind row h = rw (failing_none (order_tests (layout kind) (orders kind) row) (ordered_pass (layout kind) (orders kind) row h))
 
@@ -155,15 +155,15 @@ pairs_pass kind row h = rw (failing_none (order_tests (layout kind) (orders kind
 -- each field is in range and gives the number that stands in the row converted, and each pair is in order
 pub record Faultless (way : Way) (kind : ℕ) (row : List ℕ) : Type 0 where
   pub fields : (k : ℕ) → k < length (layout kind)
-      → convert way (get_or (layout kind) k blank) (get_or row k 0) ≡ some (get_or (converted way (layout kind) row) k 0)
+      → convert way (get_or (layout kind) k blank) (get_or row k 0) ≡ Some (get_or (converted way (layout kind) row) k 0)
   pub ordered : Ordered (layout kind) (orders kind) row
 
-is_some_lem : (o : Option ℕ) → is_some o ≡ true → o ≡ some (number_or0 o)
+is_some_lem : (o : Option ℕ) → is_some o ≡ true → o ≡ Some (number_or0 o)
 unfolding is_some number_or0
-is_some_lem none e = absurd (false≢true e)
-is_some_lem (some n) e = refl
+is_some_lem None e = absurd (false≢true e)
+is_some_lem (Some n) e = refl
 
-pub faultless : (way : Way) (kind : ℕ) (row : List ℕ) → row_fault way kind row ≡ none → Faultless way kind row
+pub faultless : (way : Way) (kind : ℕ) (row : List ℕ) → row_fault way kind row ≡ None → Faultless way kind row
 unfolding row_fault_in
 faultless way kind row e =
     let ts = field_tests way (layout kind) row in
@@ -173,11 +173,11 @@ faultless way kind row e =
     record {
       fields = λ k h.
           is_some_lem _ (sym (field_test_at way (layout kind) row k h) ∙ sym (get_or-append ts us true k (omega arith)) ∙ pass k)
-          ∙ ap some (sym (converted_at way (layout kind) row k h));
+          ∙ ap Some (sym (converted_at way (layout kind) row k h));
       ordered = ordered_was (layout kind) (orders kind) row (λ i. sym (get_or-append-add ts us i true) ∙ pass (length ts + i));
     }
 
-pub no_fault : (way : Way) (kind : ℕ) (row : List ℕ) → Faultless way kind row → row_fault way kind row ≡ none
+pub no_fault : (way : Way) (kind : ℕ) (row : List ℕ) → Faultless way kind row → row_fault way kind row ≡ None
 no_fault way kind row f = fault_order way kind row (λ i h. some_told _ _ (f.fields i h)) ∙ pairs_pass kind row f.ordered
 
 -- ---- rows that agree at each place have one fault

@@ -8,12 +8,13 @@ use native.Mathlib.Omega.{arith}
 use lib.Dec.{T, ltb, leb, eqb, ltb→lt, leb→le, eqb→eq}
 use lib.ListN.{length, get_or, drop, get_or-eq_default, get_or-map, length-map}
 use lib.Seq.{get_or-drop}
-use Rattle.base.proofs.Every.{at, left, right}
+use Rattle.base.proofs.Every.{every, at, left, right}
 use Rattle.base.specs.Tabulate.{total}
 use Rattle.layout.specs.declared.Kind.{Kind}
 use Rattle.layout.specs.declared.Kind.TheVariants.{Number, Reference, Padding, Gap, LessOne, Speed}
 use Rattle.layout.specs.declared.Shape.{Shape}
-use Rattle.layout.specs.Layout.{kinds, layout_in, layout, versions, kinds_of, kind_of, blank, orders, widths, size}
+use Rattle.layout.specs.declared.Order.{Order}
+use Rattle.layout.specs.Layout.{kinds, layout_in, layout, versions, kinds_of, kind_of, blank, pairs, orders, widths, size}
 use Rattle.layout.specs.Limits.{limits}
 use Rattle.layout.specs.Fields.{is_padding}
 use Rattle.layout.specs.Rows.{listed_in, listed}
@@ -137,20 +138,7 @@ pub header_size : size 0 ≡ 14
 unfolding size widths total layout_in
 header_size = refl
 
--- ---- there is none after the last
--- a number that is none of those below n, one by one as a `match` leaves it
-abbrev pub NoneBelow : ℕ → ℕ → Type 0
-NoneBelow zero k = Unit
-NoneBelow (suc n) k = NoneBelow n k × (k ≡ n → ⊥)
-
-none_below : (n k : ℕ) → NoneBelow n k → n ≤ k
-none_below zero k h = omega arith
-none_below (suc n) k (h, d) = let l = none_below n k h in omega arith
-
-pub none_after : {A : Type 0} (xs : List A) (d : A) (k : ℕ) → NoneBelow (length xs) k → d ≡ get_or xs k d
-none_after xs d k h = sym (get_or-eq_default xs d (none_below (length xs) k h))
-
--- pairs that are in order have the header, streams and ports
+-- ---- pairs that are in order have the header, streams and ports
 pub no_orders : (kind : ℕ) → (kind ≡ 0 → ⊥) → (kind ≡ 3 → ⊥) → (kind ≡ 4 → ⊥) → orders kind ≡ []
 unfolding orders
 no_orders zero a b c = absurd (a refl)
@@ -159,6 +147,10 @@ no_orders (suc (suc zero)) a b c = refl
 no_orders (suc (suc (suc zero))) a b c = absurd (b refl)
 no_orders (suc (suc (suc (suc zero)))) a b c = absurd (c refl)
 no_orders (suc (suc (suc (suc (suc kind))))) a b c = refl
+
+pub few_orders : (kind : ℕ) → length (orders kind) ≤ 2
+unfolding orders
+few_orders kind = leb→le _ _ (each_at (λ (os : List Order). leb (length os) 2) pairs [] tt tt kind)
 
 -- ---- a fact of each in a list
 abbrev pub All : {A : Type 0} → (A → Type 0) → List A → Type 0
@@ -180,6 +172,17 @@ pub every_kind : (P : ℕ → Type 0) (s : ℕ) → All (λ ks. P (get_or ks s (
     → (version : ℕ) → P (kind_of version s)
 unfolding kind_of
 every_kind P s = every_version (λ ks. P (get_or ks s (length (kinds limits))))
+
+-- so far each version has the kinds of version 1, and there is none after the last section
+pub kind_there : (version s : ℕ) → s < 6 → s ≡ kind_of version s
+unfolding kind_of
+kind_there version s h =
+    let all = every_version (λ ks. T (every (λ k. eqb (get_or ks k 6) k) 6)) (search) version in
+    sym (eqb→eq _ _ (at (λ k. eqb (get_or (kinds_of version) k 6) k) 6 all s h))
+
+pub kind_past : (version s : ℕ) → 6 ≤ s → 6 ≡ kind_of version s
+unfolding kind_of
+kind_past version s h = sym (get_or-eq_default (kinds_of version) 6 (rw (every_version (λ ks. length ks ≡ 6) (search) version) h))
 
 pub header_kind : (version : ℕ) → kind_of version 0 ≡ 0
 header_kind = every_kind (λ k. k ≡ 0) 0 (search)

@@ -4,7 +4,6 @@ pub mod FieldLaws
 pub mod RowLaws
 pub mod FaultLaws
 pub mod RoomLaws
-pub mod AnswerLaws
 pub mod TurnLaws
 pub mod BackLaws
 pub mod PlainLaws

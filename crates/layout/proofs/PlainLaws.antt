@@ -4,7 +4,8 @@
 use mathlib.Core.Path.{◌≡◌, refl, sym, ap, ◌∙◌}
 use mathlib.Core.List.{List, [], ◌∷◌}
 use mathlib.Core.Logic.{◌⊎◌, inl, inr, ⊎_elim}
-use mathlib.Core.Option.{none, some, some-injective}
+use Rattle.std.specs.Prelude.{None, Some}
+use Rattle.std.proofs.lemmas.Option.{same_Some}
 use Prim.Native.Nat.{ℕ, zero, suc, ◌^◌, ◌≤◌, ◌<◌}
 use native.Mathlib.Omega.{arith}
 use lib.Dec.{leb}
@@ -30,7 +31,7 @@ use Rattle.layout.proofs.FieldLaws.{number_was, less_one_was, speed_was}
 use Rattle.layout.proofs.FaultLaws.{ordered_pass, faultless}
 
 -- ---- what the field at a place means, by its kind, of a record that begins with these fields
-module _ (kind : ℕ) (raw : List ℕ) (ok : row_fault Reading kind raw ≡ none) (n : ℕ) (first : List Shape)
+module _ (kind : ℕ) (raw : List ℕ) (ok : row_fault Reading kind raw ≡ None) (n : ℕ) (first : List Shape)
     (begins : take n (layout kind) ≡ first) where
   abbrev meant : ℕ → ℕ
   meant k = get_or (converted Reading (layout kind) raw) k 0
@@ -42,10 +43,10 @@ module _ (kind : ℕ) (raw : List ℕ) (ok : row_fault Reading kind raw ≡ none
     same : get_or (layout kind) k blank ≡ get_or first k blank
     same = sym (get_or-take n (layout kind) k blank there.0) ∙ ap (λ (ss : List Shape). get_or ss k blank) begins
 
-    given : convert Reading (get_or first k blank) (get_or raw k 0) ≡ some (meant k)
+    given : convert Reading (get_or first k blank) (get_or raw k 0) ≡ Some (meant k)
     given = rw same at ((faultless Reading kind raw ok).fields k there.1)
 
-    told : (what : Kind) → (get_or first k blank).kind ≡ what → meaning what (get_or raw k 0) ≡ some (meant k)
+    told : (what : Kind) → (get_or first k blank).kind ≡ what → meaning what (get_or raw k 0) ≡ Some (meant k)
     unfolding convert
     told what is = rw is at given
 
@@ -56,7 +57,7 @@ module _ (kind : ℕ) (raw : List ℕ) (ok : row_fault Reading kind raw ≡ none
     unfolding meaning
     reference_in fit is =
         let narrow = rw (widths_at kind k, same) at (fit_at (widths kind) raw k fit (omega (arith, there, length_widths kind))) in
-        rw (← some-injective (get_or raw k 0) (meant k) (told Reference is)) narrow
+        rw (← same_Some (get_or raw k 0) (meant k) (told Reference is)) narrow
 
     speed_in : (get_or first k blank).kind ≡ Speed → (meant k ≡ 100) ⊎ (meant k ≡ 10)
     speed_in is = ⊎_elim (λ h. inl h.1) (λ h. inr h.1) (speed_was (get_or raw k 0) (meant k) (told Speed is))
@@ -65,7 +66,7 @@ module _ (kind : ℕ) (raw : List ℕ) (ok : row_fault Reading kind raw ≡ none
     less_one_in is = let was = less_one_was (get_or raw k 0) (meant k) (told LessOne is) in omega arith
 
 -- the two fields of its only pair
-pair_in : (kind : ℕ) (raw : List ℕ) → row_fault Reading kind raw ≡ none
+pair_in : (kind : ℕ) (raw : List ℕ) → row_fault Reading kind raw ≡ None
     → (a b : ℕ) → order_tests (layout kind) (orders kind) raw ≡ leb a b ∷ [] → a ≤ b
 pair_in kind raw ok a b e =
     leb-true a b (rw e at (ordered_pass (layout kind) (orders kind) raw (faultless Reading kind raw ok).ordered 0))
@@ -79,7 +80,7 @@ pub record PlainHeader (vs : List ℕ) : Type 0 where
   pub receive_least_lem : named 0 vs name.ReceiveLeast ≤ named 0 vs name.ReceiveGreatest
   pub receive_greatest_lem : named 0 vs name.ReceiveGreatest ≤ 1875
 
-header_counts : (raw : List ℕ) → row_fault Reading 0 raw ≡ none
+header_counts : (raw : List ℕ) → row_fault Reading 0 raw ≡ None
     → (s : ℕ) → suc s < 6 → get_or (converted Reading (layout 0) raw) (suc s) 0 ≤ most (suc s)
 unfolding layout_in most_in
 header_counts raw ok zero h = (number_in 0 raw ok 11 (header limits) refl 1 (omega arith) 0 limits.systems refl).1
@@ -89,7 +90,7 @@ header_counts raw ok (suc (suc (suc zero))) h = (number_in 0 raw ok 11 (header l
 header_counts raw ok (suc (suc (suc (suc zero)))) h = (number_in 0 raw ok 11 (header limits) refl 5 (omega arith) 0 limits.hops refl).1
 header_counts raw ok (suc (suc (suc (suc (suc s))))) h = absurd (omega arith)
 
-pub header_plain : (raw : List ℕ) → row_fault Reading 0 raw ≡ none → PlainHeader (converted Reading (layout 0) raw)
+pub header_plain : (raw : List ℕ) → row_fault Reading 0 raw ≡ None → PlainHeader (converted Reading (layout 0) raw)
 unfolding named layout_in orders index_in number_of
 header_plain raw ok =
     let n = number_in 0 raw ok 11 (header limits) refl in
@@ -110,7 +111,7 @@ header_plain raw ok =
 pub record PlainEndSystem (vs : List ℕ) : Type 0 where
   pub speed : (named 1 vs name.Speed ≡ 100) ⊎ (named 1 vs name.Speed ≡ 10)
 
-pub end_system_plain : (version : ℕ) (raw : List ℕ) → row_fault Reading (kind_of version 1) raw ≡ none
+pub end_system_plain : (version : ℕ) (raw : List ℕ) → row_fault Reading (kind_of version 1) raw ≡ None
     → PlainEndSystem (converted Reading (layout (kind_of version 1)) raw)
 unfolding named layout_in index_in number_of
 end_system_plain version raw ok =
@@ -121,7 +122,7 @@ end_system_plain version raw ok =
 pub record PlainVl (vs : List ℕ) : Type 0 where
   pub end_system_lem : named 2 vs name.EndSystem < 256
   pub code : ℕ
-  pub gap : code_of (named 2 vs name.Gap) ≡ some code
+  pub gap : code_of (named 2 vs name.Gap) ≡ Some code
   pub gap_least : 1 ≤ named 2 vs name.Gap
   pub gap_greatest : named 2 vs name.Gap ≤ 128
   pub sub_links_least : 1 ≤ named 2 vs name.SubLinks
@@ -134,12 +135,12 @@ unfolding layout_in
 vl_begins = every_kind (λ k. take 4 (layout k) ≡ take 4 vl) 2 (search)
 
 -- the gap is what its code stands for
-pub gap_meant : (version : ℕ) (raw : List ℕ) → row_fault Reading (kind_of version 2) raw ≡ none
-    → ms_of (get_or raw 1 0) ≡ some (get_or (converted Reading (layout (kind_of version 2)) raw) 1 0)
+pub gap_meant : (version : ℕ) (raw : List ℕ) → row_fault Reading (kind_of version 2) raw ≡ None
+    → ms_of (get_or raw 1 0) ≡ Some (get_or (converted Reading (layout (kind_of version 2)) raw) 1 0)
 unfolding meaning
 gap_meant version raw ok = told (kind_of version 2) raw ok 4 (take 4 vl) (vl_begins version) 1 (omega arith) Gap refl
 
-pub vl_plain : (version : ℕ) (raw : List ℕ) → row_fault Reading (kind_of version 2) raw ≡ none → Fit (widths (kind_of version 2)) raw
+pub vl_plain : (version : ℕ) (raw : List ℕ) → row_fault Reading (kind_of version 2) raw ≡ None → Fit (widths (kind_of version 2)) raw
     → PlainVl (converted Reading (layout (kind_of version 2)) raw)
 unfolding named layout_in index_in number_of
 vl_plain version raw ok fit =
@@ -172,7 +173,7 @@ pub record PlainStream (vs : List ℕ) : Type 0 where
   pub period_greatest : named 3 vs name.Period ≤ 125000000
   pub jitter_greatest : named 3 vs name.Jitter ≤ 125000000
 
-pub stream_plain : (version : ℕ) (raw : List ℕ) → row_fault Reading (kind_of version 3) raw ≡ none → Fit (widths (kind_of version 3)) raw
+pub stream_plain : (version : ℕ) (raw : List ℕ) → row_fault Reading (kind_of version 3) raw ≡ None → Fit (widths (kind_of version 3)) raw
     → PlainStream (converted Reading (layout (kind_of version 3)) raw)
 unfolding named layout_in orders order_tests index_in number_of
 stream_plain version raw ok fit =
@@ -203,7 +204,7 @@ pub record PlainPort (vs : List ℕ) : Type 0 where
   pub delay_least : named 4 vs name.SwitchLeast ≤ named 4 vs name.SwitchGreatest
   pub delay_greatest : named 4 vs name.SwitchGreatest ≤ 1250
 
-pub port_plain : (version : ℕ) (raw : List ℕ) → row_fault Reading (kind_of version 4) raw ≡ none
+pub port_plain : (version : ℕ) (raw : List ℕ) → row_fault Reading (kind_of version 4) raw ≡ None
     → PlainPort (converted Reading (layout (kind_of version 4)) raw)
 unfolding named layout_in orders order_tests index_in number_of
 port_plain version raw ok =

@@ -1,15 +1,14 @@
 -- Where the table has a row of a section: two bounds, and then each field of the row is one that the cursor reads or writes.
 -- Assumes nothing.
 use mathlib.Core.Path.{◌≡◌, refl}
-use mathlib.Core.Bool.{Bool, true, false, and-eq-true_iff, and-false}
+use mathlib.Core.Bool.{Bool, true, false, and-eq-true_iff}
 use mathlib.Core.List.{List}
 use Prim.Native.Nat.{ℕ, ◌+◌, ◌*◌, ◌^◌, ◌≤◌, ◌<◌}
 use native.Mathlib.Omega.{arith}
 use lib.Dec.{leb}
 use lib.ListN.{length, get_or, take, replicate, length-replicate}
 use lib.Pow.{pow_pos}
-use borrow.Author.Tests.{leb-true, le-leb, lt-leb}
-use Rattle.base.proofs.Tests.{same_test}
+use borrow.Author.Tests.{leb-true, le-leb}
 use Rattle.bits.specs.Place.{Room}
 use Rattle.base.specs.Tabulate.{total}
 use Rattle.bits.specs.Rows.{read_all, put_all}
@@ -32,19 +31,6 @@ room_was n a ws e =
 pub room_yes : (n a : ℕ) (ws : List ℕ) → n ≤ 2 ^ 32 → a + total ws ≤ 8 * n → row_room n a ws ≡ true
 unfolding row_room
 room_yes n a ws h l = rw (le-leb n (2 ^ 32) h, le-leb (a + total ws) (8 * n) l)
-
-pub too_long : (n a : ℕ) (ws : List ℕ) → 2 ^ 32 < n → row_room n a ws ≡ false
-unfolding row_room
-too_long n a ws h = rw (lt-leb n (2 ^ 32) h)
-
-pub too_short_lem : (n a : ℕ) (ws : List ℕ) → 8 * n < a + total ws → row_room n a ws ≡ false
-unfolding row_room
-too_short_lem n a ws h = rw (lt-leb (a + total ws) (8 * n) h) (and-false (leb n (2 ^ 32)))
-
--- where the length passes, a place passes that is no later than the last for such a row
-pub last_row : (n a l : ℕ) (ws : List ℕ) → n ≤ 2 ^ 32 → (a ≤ l → a + total ws ≤ 8 * n) → (a + total ws ≤ 8 * n → a ≤ l) → leb a l ≡ row_room n a ws
-unfolding row_room
-last_row n a l ws h f g = rw (le-leb n (2 ^ 32) h) (same_test a l (a + total ws) (8 * n) f g)
 
 -- ---- the row
 module _ (bytes : List ℕ) (a kind : ℕ) where

@@ -1,17 +1,13 @@
 -- The sizes of `layout::sizes` are those that the definitions say by the section: computed once, here, from the limits in force, which stand as numerals in no law.
 -- Assumes nothing.
-use Prim.Native.Nat.{ℕ, zero, suc, ◌+◌, ◌*◌, ◌≤◌}
+use Prim.Native.Nat.{◌+◌, ◌*◌}
 use mathlib.Core.Path.{◌≡◌, refl}
-use native.Mathlib.Decide.{dec_lt}
-use native.Mathlib.Omega.{arith}
 use Rattle.base.specs.Tabulate.{total}
 use Rattle.layout.specs.Limits.{limits, most_in, most}
-use Rattle.layout.specs.Fields.{is_padding}
 use Rattle.layout.specs.declared.Name.TheVariants as name
 use Rattle.layout.specs.Names.{number_of, index_in}
-use Rattle.layout.specs.Layout.{layout_in, kinds_of, kind_of, place_of, header_names, widths, size}
-use Rattle.layout.specs.Rows.{listed_in, listed}
-use Rattle.layout.specs.Sizes.{capacity, place, most_bytes}
+use Rattle.layout.specs.Layout.{layout_in, place_of, header_names, widths, size}
+use Rattle.layout.specs.Sizes.{most_bytes}
 
 pub record Most : Type 0 where
   pub systems : most 1 ≡ limits.systems
@@ -23,27 +19,6 @@ pub record Most : Type 0 where
 pub most_are : Most
 unfolding most_in
 most_are = search
-
-pub record Places : Type 0 where
-  pub systems : place 1 ≡ 10
-  pub vls : place 2 ≡ 10 + limits.systems
-  pub streams : place 3 ≡ 10 + limits.systems + limits.vls * 4
-  pub ports : place 4 ≡ 10 + limits.systems + limits.vls * 4 + limits.streams * 7
-  pub hops : place 5 ≡ 10 + limits.systems + limits.vls * 4 + limits.streams * 7 + limits.ports * 3
-  pub end : place 6 ≡ 10 + limits.systems + limits.vls * 4 + limits.streams * 7 + limits.ports * 3 + limits.hops * 3
-
-pub places_are : Places
-unfolding place capacity most_in listed listed_in is_padding kind_of kinds_of layout_in
-places_are = search
-
--- a section's list ends before the next begins
-pub place_le : (s t : ℕ) → s ≤ t → place s ≤ place t
-unfolding place
-place_le s zero h = let e : s ≡ 0 = omega arith in rw e (omega arith)
-place_le s (suc t) h = elim (dec_lt s (suc t)) [
-  | yes l ↦ omega (arith, place_le s t (omega arith))
-  | no n ↦ let e : s ≡ suc t = omega arith in rw e (omega arith)
-]
 
 -- the longest table
 pub longest_table : most_bytes 5 ≡ 14 + limits.systems + limits.vls * 3 + limits.streams * 13 + limits.ports * 4 + limits.hops * 4

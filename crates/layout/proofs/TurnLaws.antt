@@ -7,13 +7,9 @@ use mathlib.Core.Logic.{⊎_elim}
 use Prim.Native.Nat.{ℕ, ◌+◌, ◌≤◌, ◌<◌}
 use native.Mathlib.Nat.{eq-or-lt_of_le}
 use native.Mathlib.Omega.{arith}
-use lib.Dec.{eqb}
 use lib.ListN.{length, get_or, take, set}
 use lib.Seq.{take_all, take-length}
-use borrow.Author.Tests.{not-true, not-false}
-use Rattle.base.specs.Said.{ruled}
-use Rattle.frame.specs.Reply.{said}
-use Rattle.frame.specs.declared.Reply.{Reply}
+use Rattle.std.specs.Prelude.{None, Some}
 use Rattle.bits.specs.declared.Cursor.{Cursor}
 use Rattle.bits.specs.declared.Field.{Field}
 use Rattle.bits.specs.Bits.{field_at}
@@ -30,7 +26,7 @@ use Rattle.layout.specs.Fields.{convert}
 use Rattle.base.specs.Tests.{is_some}
 use Rattle.layout.specs.Promises.{wide, with_row_at}
 use Rattle.layout.specs.Rows.{row_room, row_at}
-use Rattle.layout.proofs.AnswerLaws.{refusal_of}
+use Rattle.layout.proofs.ToldLaws.{some_told, none_told}
 use Rattle.layout.proofs.FaultLaws.{GoodTo}
 use Rattle.layout.proofs.LayoutLaws.{widths_at, length_widths}
 use Rattle.layout.proofs.RoomLaws.{field_room, row_there, put_there}
@@ -44,17 +40,13 @@ pub filled_all : (row out : List ℕ) (k : ℕ) → length row ≤ k → out ≡
 filled_all row out k h e = e ∙ ap wide (take_all k row h)
 
 -- ---- a number tested
-module _ (way : Way) (kind : ℕ) (row : List ℕ) (k : ℕ) (s : Shape) (x : Reply) (is : s ≡ get_or (layout kind) k blank)
-    (told : said x ≡ ruled (convert way s (get_or row k 0))) where
-  by_shape : said x ≡ ruled (convert way (get_or (layout kind) k blank) (get_or row k 0))
-  by_shape = rw is at told
+module _ (way : Way) (kind : ℕ) (row : List ℕ) (k : ℕ) (s : Shape) (is : s ≡ get_or (layout kind) k blank) where
+  pub refused_here : convert way s (get_or row k 0) ≡ None → is_some (convert way (get_or (layout kind) k blank) (get_or row k 0)) ≡ false
+  refused_here e = rw (← is) (none_told _ e)
 
-  pub refused_here : eqb (said x).number 4 ≡ true → is_some (convert way (get_or (layout kind) k blank) (get_or row k 0)) ≡ false
-  refused_here e = not-true _ (sym (refusal_of x _ by_shape) ∙ e)
-
-  pub good_more : GoodTo way kind row k → eqb (said x).number 4 ≡ false → GoodTo way kind row (k + 1)
-  good_more good e i h = ⊎_elim
-      (λ (same : i ≡ k). rw same (not-false _ (sym (refusal_of x _ by_shape) ∙ e)))
+  pub good_more : GoodTo way kind row k → (v : ℕ) → convert way s (get_or row k 0) ≡ Some v → GoodTo way kind row (k + 1)
+  good_more good v e i h = ⊎_elim
+      (λ (same : i ≡ k). rw (same, ← is) (some_told _ v e))
       (λ (low : i < k). good i low)
       (eq-or-lt_of_le (omega arith))
 

@@ -1,11 +1,7 @@
 -- Each public contract settles its answer and what the lent table holds: two results that both satisfy it are equal.
 -- Assumes nothing.
-use mathlib.Core.Path.{◌≡◌, refl, sym, ap, ◌∙◌}
-use mathlib.Core.Option.{some-injective, some-ne-none, none-ne-some}
+use mathlib.Core.Path.{refl, sym, ◌∙◌}
 use Rattle.base.specs.Settles.{Settles}
-use Rattle.layout.specs.declared.Fault.{Fault}
-use Rattle.layout.specs.declared.Fault.TheVariants.{Test, Nothing}
-use Rattle.layout.specs.Promises.{fault_of}
 use Rattle.layout.proofs.kinds.fields_in.Kinds as fields-kinds
 use Rattle.layout.proofs.kinds.fields_in.Reads as fields-reads
 use Rattle.layout.proofs.kinds.numbers_in.Kinds as numbers-kinds
@@ -69,13 +65,5 @@ converted κs a x y ws vs p q = (p ∙ sym q, refl)
 pub number : Settles 0 number-kinds.ps number-kinds.r number-reads.Post
 number κs a x y ws vs p q = (p ∙ sym q, refl)
 
--- a fault tells its test
-fault_settles : (x y : Fault) → fault_of x ≡ fault_of y → x ≡ y
-unfolding fault_of
-fault_settles (Test i) (Test j) e = ap Test (some-injective i j e)
-fault_settles (Test i) Nothing e = absurd (some-ne-none i e)
-fault_settles Nothing (Test j) e = absurd (none-ne-some j e)
-fault_settles Nothing Nothing e = refl
-
 pub fault : Settles 1 fault-kinds.ps fault-kinds.r fault-reads.Post
-fault κs a x y ws vs p q = (fault_settles x y (p ∙ sym q), refl)
+fault κs a x y ws vs p q = (p ∙ sym q, refl)

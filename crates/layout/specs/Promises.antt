@@ -1,13 +1,10 @@
 -- What the contracts of this crate's routines name beside 01's rules: a row
--- put into bytes, an array that has room for any row, the answer of a test.
+-- put into bytes, an array that has room for any row, the pairs that a row fails.
 -- No demand is stated by these. Assumes nothing.
-use Rattle.std.specs.Prelude.{ℕ, ◌+◌, ◌-◌, List, ◌++◌, length, replicate}
-use Rattle.std.proofs.Math.Option.{Option, none, some, map}
+use Rattle.std.specs.Prelude.{ℕ, ◌+◌, ◌-◌, List, ◌++◌, length, replicate, Option, option_map}
 use Rattle.base.specs.Pick.{pick}
 use Rattle.base.specs.Tests.{first_failing}
 use Rattle.bits.specs.Rows.{put_all}
-use Rattle.layout.specs.declared.Fault.{Fault}
-use Rattle.layout.specs.declared.Fault.TheVariants.{Test, Nothing}
 use Rattle.layout.specs.Layout.{layout, orders, widths}
 use Rattle.layout.specs.Rows.{row_room, order_tests}
 
@@ -21,9 +18,4 @@ wide row = row ++ replicate (11 - length row) 0
 
 -- the first pair of fields of a record that are not in order, by its place behind the fields
 unfoldable pub order_fault : ℕ → List ℕ → Option ℕ
-order_fault kind row = map (λ (i : ℕ). length (layout kind) + i) (first_failing (order_tests (layout kind) (orders kind) row))
-
--- what the answer of a test stands for
-unfoldable pub fault_of : Fault → Option ℕ
-fault_of (Test i) = some i
-fault_of Nothing = none
+order_fault kind row = option_map (λ (i : ℕ). length (layout kind) + i) (first_failing (order_tests (layout kind) (orders kind) row))

@@ -1,7 +1,6 @@
 -- A record as a row of numbers, one for each field: as they are stored, as they are meant, and the named tests that refuse it.
 -- Assumes nothing.
-use Rattle.std.specs.Prelude.{ℕ, ◌+◌, ◌*◌, ◌^◌, Bool, ◌&&◌, List, [], ◌∷◌, ◌++◌, map, leb, length, get_or, replicate}
-use Rattle.std.proofs.Math.Option.{Option}
+use Rattle.std.specs.Prelude.{ℕ, ◌+◌, ◌*◌, ◌^◌, Bool, ◌&&◌, List, [], ◌∷◌, ◌++◌, map, leb, length, get_or, replicate, Option}
 use Rattle.base.specs.Pick.{pick}
 use Rattle.base.specs.Tests.{is_some, number_or0, first_failing}
 use Rattle.base.specs.Tabulate.{total}

@@ -16,7 +16,7 @@ pub use rows::{converted_number, converted_row, fault_of, put_row, read_row};
 pub use shapes::shape_at;
 
 // What a stored field stands for.
-#[derive(Clone, Copy)]
+#[derive(Clone, Copy, PartialEq, Eq, Debug)]
 pub enum Kind {
     // a number from the first to the second
     Number(u64, u64),
@@ -33,7 +33,7 @@ pub enum Kind {
 }
 
 // What a field is called.
-#[derive(Clone, Copy)]
+#[derive(Clone, Copy, PartialEq, Eq, Debug)]
 pub enum Name {
     Version,
     EndSystems,
@@ -65,7 +65,7 @@ pub enum Name {
 }
 
 // A field: its name, its width in bits and what it stands for.
-#[derive(Clone, Copy)]
+#[derive(Clone, Copy, PartialEq, Eq, Debug)]
 pub struct Shape {
     pub name: Name,
     pub width: usize,
@@ -73,22 +73,15 @@ pub struct Shape {
 }
 
 // Two fields of a record of which one is at most the other.
-#[derive(Clone, Copy)]
+#[derive(Clone, Copy, PartialEq, Eq, Debug)]
 pub struct Order {
     pub lesser: Name,
     pub greater: Name,
 }
 
 // Whether numbers are read from the table or are to be written to it.
-#[derive(Clone, Copy)]
+#[derive(Clone, Copy, PartialEq, Eq, Debug)]
 pub enum Way {
     Reading,
     Writing,
-}
-
-// The first test of a row that fails: a field's own range by the field's place, then the pairs of fields that are not in order.
-#[derive(Clone, Copy)]
-pub enum Fault {
-    Test(u64),
-    Nothing,
 }

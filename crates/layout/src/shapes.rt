@@ -6,84 +6,57 @@ ghost use Rattle.layout.specs.Layout.{field, layout, blank};
 use crate::sizes::{MOST_HOPS, MOST_PORTS, MOST_STREAMS, MOST_SYSTEMS, MOST_VLS};
 use crate::{Kind, Name, Shape};
 
-// A shape in one line: the field's name, its width in bits and what it stands for.
-#[derive(Clone, Copy)]
-struct Field(Name, usize, Kind);
+// A shape in one line.
+fn shape(name: Name, width: usize, kind: Kind) -> Shape
+    ensures { result ≡ field name width kind }
+{
+    Shape { name, width, kind }
+}
 
 // The shape of field k of a record of this kind, blank where it has none.
+#[tactic(auto, unfolding(crate::specs::Layout::layout_in))]
 pub fn shape_at(kind: usize, k: usize) -> Shape
     ensures { result ≡ get_or (layout kind) k blank }
 {
-    let f = field_at(kind, k);
-    let name = f.0;
-    let what = f.2;
-    Shape {
-        name,
-        width: f.1,
-        kind: what,
-    }
-}
-
-fn field_at(kind: usize, k: usize) -> Field
-    ensures { field result.0 result.1 result.2 ≡ get_or (layout kind) k blank }
-{
-    match kind {
+    match (kind, k) {
         // the header
-        0 => match k {
-            0 => Field(Name::Version, 8, Kind::Number(1, 1)),
-            1 => Field(Name::EndSystems, 8, Kind::Number(0, MOST_SYSTEMS as u64)),
-            2 => Field(Name::Vls, 12, Kind::Number(0, MOST_VLS as u64)),
-            3 => Field(Name::Streams, 12, Kind::Number(0, MOST_STREAMS as u64)),
-            4 => Field(Name::Ports, 8, Kind::Number(0, MOST_PORTS as u64)),
-            5 => Field(Name::Hops, 12, Kind::Number(0, MOST_HOPS as u64)),
-            6 => Field(Name::SendLeast, 12, Kind::Number(0, 1_875)),
-            7 => Field(Name::SendGreatest, 12, Kind::Number(0, 1_875)),
-            8 => Field(Name::ReceiveLeast, 12, Kind::Number(0, 1_875)),
-            9 => Field(Name::ReceiveGreatest, 12, Kind::Number(0, 1_875)),
-            10 => Field(Name::Padding, 4, Kind::Padding),
-            _ => Field(Name::Padding, 0, Kind::Padding),
-        },
+        (0, 0) => shape(Name::Version, 8, Kind::Number(1, 1)),
+        (0, 1) => shape(Name::EndSystems, 8, Kind::Number(0, MOST_SYSTEMS as u64)),
+        (0, 2) => shape(Name::Vls, 12, Kind::Number(0, MOST_VLS as u64)),
+        (0, 3) => shape(Name::Streams, 12, Kind::Number(0, MOST_STREAMS as u64)),
+        (0, 4) => shape(Name::Ports, 8, Kind::Number(0, MOST_PORTS as u64)),
+        (0, 5) => shape(Name::Hops, 12, Kind::Number(0, MOST_HOPS as u64)),
+        (0, 6) => shape(Name::SendLeast, 12, Kind::Number(0, 1_875)),
+        (0, 7) => shape(Name::SendGreatest, 12, Kind::Number(0, 1_875)),
+        (0, 8) => shape(Name::ReceiveLeast, 12, Kind::Number(0, 1_875)),
+        (0, 9) => shape(Name::ReceiveGreatest, 12, Kind::Number(0, 1_875)),
+        (0, 10) => shape(Name::Padding, 4, Kind::Padding),
         // an end system
-        1 => match k {
-            0 => Field(Name::Speed, 1, Kind::Speed),
-            1 => Field(Name::Padding, 7, Kind::Padding),
-            _ => Field(Name::Padding, 0, Kind::Padding),
-        },
+        (1, 0) => shape(Name::Speed, 1, Kind::Speed),
+        (1, 1) => shape(Name::Padding, 7, Kind::Padding),
         // a VL
-        2 => match k {
-            0 => Field(Name::EndSystem, 8, Kind::Reference),
-            1 => Field(Name::Gap, 3, Kind::Gap),
-            2 => Field(Name::SubLinks, 2, Kind::LessOne),
-            3 => Field(Name::Lmax, 11, Kind::Number(64, 1_518)),
-            _ => Field(Name::Padding, 0, Kind::Padding),
-        },
+        (2, 0) => shape(Name::EndSystem, 8, Kind::Reference),
+        (2, 1) => shape(Name::Gap, 3, Kind::Gap),
+        (2, 2) => shape(Name::SubLinks, 2, Kind::LessOne),
+        (2, 3) => shape(Name::Lmax, 11, Kind::Number(64, 1_518)),
         // a stream
-        3 => match k {
-            0 => Field(Name::Vl, 12, Kind::Reference),
-            1 => Field(Name::SubLink, 2, Kind::Reference),
-            2 => Field(Name::Kind, 1, Kind::Number(0, 1)),
-            3 => Field(Name::Size, 14, Kind::Number(1, 8_192)),
-            4 => Field(Name::LeastSize, 14, Kind::Number(1, 8_192)),
-            5 => Field(Name::Period, 27, Kind::Number(12_500, 125_000_000)),
-            6 => Field(Name::Jitter, 27, Kind::Number(0, 125_000_000)),
-            7 => Field(Name::Padding, 7, Kind::Padding),
-            _ => Field(Name::Padding, 0, Kind::Padding),
-        },
+        (3, 0) => shape(Name::Vl, 12, Kind::Reference),
+        (3, 1) => shape(Name::SubLink, 2, Kind::Reference),
+        (3, 2) => shape(Name::Kind, 1, Kind::Number(0, 1)),
+        (3, 3) => shape(Name::Size, 14, Kind::Number(1, 8_192)),
+        (3, 4) => shape(Name::LeastSize, 14, Kind::Number(1, 8_192)),
+        (3, 5) => shape(Name::Period, 27, Kind::Number(12_500, 125_000_000)),
+        (3, 6) => shape(Name::Jitter, 27, Kind::Number(0, 125_000_000)),
+        (3, 7) => shape(Name::Padding, 7, Kind::Padding),
         // a port
-        4 => match k {
-            0 => Field(Name::Speed, 1, Kind::Speed),
-            1 => Field(Name::SwitchLeast, 12, Kind::Number(0, 1_250)),
-            2 => Field(Name::SwitchGreatest, 12, Kind::Number(0, 1_250)),
-            3 => Field(Name::Padding, 7, Kind::Padding),
-            _ => Field(Name::Padding, 0, Kind::Padding),
-        },
+        (4, 0) => shape(Name::Speed, 1, Kind::Speed),
+        (4, 1) => shape(Name::SwitchLeast, 12, Kind::Number(0, 1_250)),
+        (4, 2) => shape(Name::SwitchGreatest, 12, Kind::Number(0, 1_250)),
+        (4, 3) => shape(Name::Padding, 7, Kind::Padding),
         // a hop
-        5 => match k {
-            0 => Field(Name::Vl, 12, Kind::Reference),
-            1 => Field(Name::Port, 8, Kind::Reference),
-            2 => Field(Name::Parent, 12, Kind::Reference),
-            _ => Field(Name::Padding, 0, Kind::Padding),
-        },
-        _ => Field(Name::Padding, 0, Kind::Padding),
+        (5, 0) => shape(Name::Vl, 12, Kind::Reference),
+        (5, 1) => shape(Name::Port, 8, Kind::Reference),
+        (5, 2) => shape(Name::Parent, 12, Kind::Reference),
+        _ => shape(Name::Padding, 0, Kind::Padding),
     }
 }

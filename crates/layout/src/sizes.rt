@@ -1,4 +1,4 @@
-// How long the lists of numbers are that a table is unpacked to, and where they stand on a sheet, which holds them one after the other.
+// How long records, lists of numbers and tables are.
 // All follow from the fields of a record and the counts that the header admits; what each is, the definitions say by the section (specs/Sizes).
 
 // The kinds of records.
@@ -64,31 +64,6 @@ pub const STREAMS: usize = MOST_STREAMS * STREAM;
 pub const PORTS: usize = MOST_PORTS * PORT;
 
 pub const HOPS: usize = MOST_HOPS * HOP;
-
-// A sheet: the header's numbers, the counts of the five sections, the five lists.
-pub const SYSTEMS_COUNT: usize = HEADER_LIST;
-
-pub const VLS_COUNT: usize = HEADER_LIST + 1;
-
-pub const STREAMS_COUNT: usize = HEADER_LIST + 2;
-
-pub const PORTS_COUNT: usize = HEADER_LIST + 3;
-
-pub const HOPS_COUNT: usize = HEADER_LIST + 4;
-
-pub const HEAD: usize = HEADER_LIST + 5;
-
-pub const SYSTEMS_AT: usize = HEAD;
-
-pub const VLS_AT: usize = SYSTEMS_AT + SYSTEMS;
-
-pub const STREAMS_AT: usize = VLS_AT + VLS;
-
-pub const PORTS_AT: usize = STREAMS_AT + STREAMS;
-
-pub const HOPS_AT: usize = PORTS_AT + PORTS;
-
-pub const SHEET: usize = HOPS_AT + HOPS;
 
 // The bytes of the longest table: the header's, and those of the most records of each section.
 pub const TABLE: usize = HEADER_BYTES

@@ -1,42 +1,50 @@
-use mathlib.Core.Path.{◌≡◌, sym}
-use Prim.Native.Nat.{◌+◌, ◌-◌, ◌*◌, ◌^◌, ◌≤◌, ◌<◌}
-use native.Mathlib.Nat.{sub_self}
+-- `bits::gather` meets its contract: a byte more is eight bits more, and five bytes fit.
+-- Assumes nothing.
+use mathlib.Core.Path.{◌≡◌, sym, ◌∙◌}
+use mathlib.Core.List.{List}
+use Prim.Native.Nat.{ℕ, ◌+◌, ◌-◌, ◌*◌, ◌^◌, ◌≤◌, ◌<◌}
 use native.Mathlib.Omega.{arith}
+use borrow.Author.Rules.{rules}
 use lib.Pow.{pow_mono}
+use lib.ListN.{length, get_or, take, drop, length-take}
+use Rattle.std.proofs.lemmas.List.{get_or-take, get_or-drop}
 use Rattle.bits.specs.Bits.{field_at}
 use Rattle.bits.proofs.FieldLaws.{field_lt}
 use Rattle.bits.proofs.CutLaws.{byte_more}
 use Rattle.bits.proofs.gather.Goals as goal
 
-pub loop-k-init : goal.loop-k-init
+-- byte i of n bytes that are taken from one on; and what fewer than five bytes were leaves room for one more
+byte_of : (s : List ℕ) (from n i : ℕ) → i < length (take n (drop from s)) → get_or (take n (drop from s)) i 0 ≡ get_or s (from + i) 0
+byte_of s from n i h = get_or-take n (drop from s) i 0 (omega (arith, length-take n (drop from s))) ∙ get_or-drop from s i 0
+
+small : (s : List ℕ) (from n i : ℕ) → n ≤ 5 → i < length (take n (drop from s)) → field_at s (8 * from) (8 * i) < 2 ^ 32
+small s from n i few h =
+    let e : 8 * i ≤ 32 = omega (arith, length-take n (drop from s)) in
+    omega (arith, field_lt s (8 * from) (8 * i), pow_mono e)
+
+pub loop-byte-init : goal.loop-byte-init
 unfolding field_at
-loop-k-init c = (omega arith, omega arith, rw (sub_self))
+loop-byte-init c = search rules
 
 pub overflow_mul-v : goal.overflow_mul-v
 overflow_mul-v c =
-    let small : c.loop-k.k < c.args.from + 5 → c.loop-k.v < 2 ^ 32 = λ h. let a = c.args in
-    let e : 8 * (c.loop-k.k - a.from) ≤ 32 = omega arith in
-    omega (arith, field_lt a.s.now (8 * a.from) (8 * (c.loop-k.k - a.from)), pow_mono e) in
-    omega (arith, small (omega arith))
-
-pub overflow_cast-v : goal.overflow_cast-v
-overflow_cast-v c = omega (arith, c.type_inv.s c.loop-k.k)
+    let a = c.args in
+    omega (arith, small a.s.now a.from (a.to - a.from) c.loop-byte.byte-index (omega arith) c.loop-byte-test.true)
 
 pub overflow_add-v : goal.overflow_add-v
 overflow_add-v c =
-    let small : c.loop-k.k < c.args.from + 5 → c.loop-k.v < 2 ^ 32 = λ h. let a = c.args in
-    let e : 8 * (c.loop-k.k - a.from) ≤ 32 = omega arith in
-    omega (arith, field_lt a.s.now (8 * a.from) (8 * (c.loop-k.k - a.from)), pow_mono e) in
-    omega (arith, small (omega arith), c.type_inv.s c.loop-k.k)
-
-pub loop-k-preserved : goal.loop-k-preserved
-loop-k-preserved c =
     let a = c.args in
-    let l = c.loop-k in
-    let b = byte_more a.s.now a.from l.k l.invariant.0 (c.type_inv.s l.k).fits in
-    (omega arith, omega arith, rw l.invariant.2 (sym b))
+    let i = c.loop-byte.byte-index in
+    omega (
+      arith,
+      small a.s.now a.from (a.to - a.from) i (omega arith) c.loop-byte-test.true,
+      byte_of a.s.now a.from (a.to - a.from) i c.loop-byte-test.true,
+      c.type_inv.s (a.from + i),
+    )
 
-pub returns : goal.returns
-returns c =
-    let e : c.loop-k.k ≡ c.args.to = omega arith in
-    rw (← e) c.loop-k.invariant.2
+pub loop-byte-preserved : goal.loop-byte-preserved
+loop-byte-preserved c =
+    let a = c.args in
+    let i = c.loop-byte.byte-index in
+    rw (c.loop-byte.invariant, byte_of a.s.now a.from (a.to - a.from) i c.loop-byte-test.true)
+    (sym (byte_more a.s.now a.from i (c.type_inv.s (a.from + i)).fits))

@@ -3,18 +3,8 @@
 use mathlib.Core.Path.{◌≡◌, refl, ap}
 use Prim.Native.Nat.{ℕ, ◌+◌, ◌-◌, ◌*◌, ◌/◌, ◌^◌}
 use native.Mathlib.Omega.{arith}
-use lib.Pow.{pow_pos}
 use Rattle.bits.proofs.CutLaws.{field_of_bytes}
 use Rattle.bits.proofs.Cursor.take.Goals as goal
-
-pub gather-v-requires : goal.gather-v-requires
-gather-v-requires c = (omega arith, omega arith, omega arith)
-
-pub nonzero_div-result : goal.nonzero_div-result
-nonzero_div-result c = rw c.weight.ensures (pow_pos _)
-
-pub nonzero_rem-result : goal.nonzero_rem-result
-nonzero_rem-result c = rw c.weight-2.ensures (pow_pos _)
 
 pub returns : goal.returns
 returns c =

@@ -1,7 +1,6 @@
 -- `layout::rows::converted_row` meets its contract: after k turns the first k numbers stand in the array.
 -- Assumes nothing.
 use mathlib.Core.Path.{◌≡◌}
-use Prim.Native.Nat.{◌-◌, ◌≤◌}
 use lib.ListN.{take}
 use Rattle.layout.specs.Layout.{layout}
 use Rattle.layout.specs.Promises.{wide}
@@ -9,7 +8,4 @@ use Rattle.layout.specs.Rows.{converted}
 use Rattle.layout.proofs.rows.converted_row.Given as goal
 
 abbrev pub invariant-loop-k : goal.invariant-loop-k
-invariant-loop-k l = (l.k ≤ l.n) × (l.out ≡ wide (take l.k (converted l.way (layout l.kind) l.row)))
-
-abbrev pub decreases-loop-k : goal.decreases-loop-k
-decreases-loop-k l = l.n - l.k
+invariant-loop-k l = l.out ≡ wide (take l.k (converted l.way (layout l.kind) l.row))

@@ -1,7 +1,7 @@
 -- `layout::rows::put_row` meets its contract: after k turns the first k fields are written, and the cursor is behind them.
 -- Assumes nothing.
 use mathlib.Core.Path.{◌≡◌}
-use Prim.Native.Nat.{◌+◌, ◌-◌, ◌≤◌}
+use Prim.Native.Nat.{◌+◌}
 use lib.ListN.{take}
 use Rattle.base.specs.Tabulate.{total}
 use Rattle.bits.specs.Rows.{put_all}
@@ -9,7 +9,4 @@ use Rattle.layout.specs.Layout.{widths}
 use Rattle.layout.proofs.rows.put_row.Given as goal
 
 abbrev pub invariant-loop-k : goal.invariant-loop-k
-invariant-loop-k l = (l.k ≤ l.n) × (l.c.at ≡ l.at + total (take l.k (widths l.kind))) × (l.table ≡ put_all l.initial.table l.at (take l.k (widths l.kind)) (take l.k l.row))
-
-abbrev pub decreases-loop-k : goal.decreases-loop-k
-decreases-loop-k l = l.n - l.k
+invariant-loop-k l = (l.cursor.at ≡ l.at + total (take l.k (widths l.kind))) × (l.table ≡ put_all l.initial.table l.at (take l.k (widths l.kind)) (take l.k l.row))

@@ -1,3 +1,5 @@
+-- `layout::rows::read_row` meets its contract: a turn puts the next field into the array.
+-- Assumes nothing.
 use mathlib.Core.Path.{sym, ap, ◌∙◌}
 use native.Mathlib.Omega.{arith}
 use lib.ListN.{length}
@@ -15,13 +17,7 @@ use Rattle.layout.proofs.rows.read_row.Goals as goal
 pub loop-k-init : goal.loop-k-init
 loop-k-init c =
     let ws = widths c.args.kind in
-    (omega arith, omega (arith, total_start ws, c.new-c.ensures), sym (wide_start ws))
-
-pub offset_bounds-row-k : goal.offset_bounds-row-k
-offset_bounds-row-k c = omega (arith, few_fields c.args.kind)
-
-pub bounds-row-k : goal.bounds-row-k
-bounds-row-k c = omega (arith, few_fields c.args.kind)
+    (omega (arith, total_start ws, c.new-cursor.ensures), sym (wide_start ws))
 
 pub loop-k-preserved : goal.loop-k-preserved
 loop-k-preserved c =
@@ -31,15 +27,15 @@ loop-k-preserved c =
     let ws = widths a.kind in
     let n = length_widths a.kind in
     let m = length_read a.table.now a.at ws in
-    let got = read_more a.table.now a.at a.kind l.k room (omega arith) _ c.shape_at-s.ensures _ l.invariant.1 _ c.read-f.ensures in
-    (omega arith, got.0, filled_more (read_all a.table.now a.at ws) _ l.k _ (omega (arith, few_fields a.kind)) (omega arith) l.invariant.2 got.1)
+    let got = read_more a.table.now a.at a.kind l.k room (omega arith) _ c.shape_at.ensures _ l.invariant.0 _ c.read-field.ensures in
+    (got.0, filled_more (read_all a.table.now a.at ws) _ l.k _ (omega (arith, few_fields a.kind)) (omega arith) l.invariant.1 got.1)
 
 pub returns-after-loop-k : goal.returns-after-loop-k
 returns-after-loop-k c =
     let a = c.args in
     let l = c.loop-k in
     let room = sym c.has_row.ensures ∙ c.if-has_row.true in
-    read_all_lem a.table.now a.at a.kind l.k room (omega arith) _ l.invariant.2
+    read_all_lem a.table.now a.at a.kind l.k room (omega arith) _ l.invariant.1
 
 pub returns-else-has_row : goal.returns-else-has_row
 returns-else-has_row c =

@@ -1,7 +1,7 @@
 -- `layout::rows::read_row` meets its contract: after k turns the first k fields stand in the array, and the cursor behind them.
 -- Assumes nothing.
 use mathlib.Core.Path.{◌≡◌}
-use Prim.Native.Nat.{◌+◌, ◌-◌, ◌≤◌}
+use Prim.Native.Nat.{◌+◌}
 use lib.ListN.{take}
 use Rattle.base.specs.Tabulate.{total}
 use Rattle.bits.specs.Rows.{read_all}
@@ -10,7 +10,4 @@ use Rattle.layout.specs.Promises.{wide}
 use Rattle.layout.proofs.rows.read_row.Given as goal
 
 abbrev pub invariant-loop-k : goal.invariant-loop-k
-invariant-loop-k l = (l.k ≤ l.n) × (l.c.at ≡ l.at + total (take l.k (widths l.kind))) × (l.row ≡ wide (take l.k (read_all l.table l.at (widths l.kind))))
-
-abbrev pub decreases-loop-k : goal.decreases-loop-k
-decreases-loop-k l = l.n - l.k
+invariant-loop-k l = (l.cursor.at ≡ l.at + total (take l.k (widths l.kind))) × (l.row ≡ wide (take l.k (read_all l.table l.at (widths l.kind))))
