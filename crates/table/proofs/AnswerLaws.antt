@@ -3,7 +3,7 @@
 use mathlib.Core.Path.{◌≡◌, ap}
 use mathlib.Core.Bool.{Bool, true, not}
 use mathlib.Core.List.{List, [], ◌∷◌, ◌++◌}
-use mathlib.Core.Option.{Option, none, some}
+use Rattle.std.specs.Prelude.{Option, None, Some}
 use Prim.Native.Nat.{ℕ, zero, suc, ◌*◌, ◌≤◌, ◌<◌}
 use native.Mathlib.Omega.{arith}
 use lib.Dec.{ltb, eqb}
@@ -32,26 +32,26 @@ module _ (fault : ℕ → ℕ → Option ℕ) (count : ℕ → ℕ) where
 
   -- no row of sections 1 to 5 has a fault
   abbrev Clean : Type 0
-  Clean = (s i : ℕ) → suc s < 6 → i < count (suc s) → fault (suc s) i ≡ none
+  Clean = (s i : ℕ) → suc s < 6 → i < count (suc s) → fault (suc s) i ≡ None
 
-  clean_was : least_from (λ s. is_some (bad_in s)) 1 5 ≡ none → Clean
+  clean_was : least_from (λ s. is_some (bad_in s)) 1 5 ≡ None → Clean
   clean_was e s i h l =
       let section = no_row_was bad_in 1 5 e (suc s) (omega arith) (omega arith) in
       no_row_was (fault (suc s)) 0 (count (suc s)) section i (omega arith) (omega arith)
 
-  clean_is : Clean → least_from (λ s. is_some (bad_in s)) 1 5 ≡ none
+  clean_is : Clean → least_from (λ s. is_some (bad_in s)) 1 5 ≡ None
   clean_is clean = no_row bad_in 1 5 none_in
     where
-      none_in : (s : ℕ) → 1 ≤ s → s < 6 → bad_in s ≡ none
+      none_in : (s : ℕ) → 1 ≤ s → s < 6 → bad_in s ≡ None
       none_in zero low high = absurd (omega arith)
       none_in (suc s) low high = no_row (fault (suc s)) 0 (count (suc s)) (λ i _ l. clean s i high (omega arith))
 
 -- ---- a table
 -- what acceptance says of it: a good header, the length that its counts require, and good rows
 pub record Sound (bytes : List ℕ) : Type 0 where
-  pub header : row_fault Reading 0 (header_row bytes) ≡ none
+  pub header : row_fault Reading 0 (header_row bytes) ≡ None
   pub exact : length bytes ≡ from bytes 6
-  pub good : (s i : ℕ) → suc s < 6 → i < rows bytes (suc s) → row_fault Reading (kind_in bytes (suc s)) (row bytes (suc s) i) ≡ none
+  pub good : (s i : ℕ) → suc s < 6 → i < rows bytes (suc s) → row_fault Reading (kind_in bytes (suc s)) (row bytes (suc s) i) ≡ None
 
 -- the answers 1 to 4, in their order: each refuses, where it is given
 abbrev pub table_refusals : List ℕ → List (Option Answer)
@@ -60,11 +60,11 @@ table_refusals bytes = answer1 bytes ∷ answer2 bytes ∷ answer3 bytes ∷ ans
 pub table_refuse : (bytes : List ℕ) → Refuse (table_refusals bytes)
 unfolding answer1 answer2 answer3 answer4 answer_at_row
 table_refuse bytes = (
-  (pick_refuses (ltb (length bytes) 14) (answer 1 0 0 0) none (omega arith) tt).0,
+  (pick_refuses (ltb (length bytes) 14) (answer 1 0 0 0) None (omega arith) tt).0,
   (
     row_refuses (row_fault Reading 0 (header_row bytes)) (answer 2 0 0) (λ test. omega arith),
     (
-      (pick_refuses (eqb (length bytes) (from bytes 6)) (answer 3 0 0 0) none (omega arith) tt).1,
+      (pick_refuses (eqb (length bytes) (from bytes 6)) (answer 3 0 0 0) None (omega arith) tt).1,
       (row_refuses (bad_section bytes) (λ s. answer_at_row bytes s (number_or0 (bad_row bytes s))) (λ s. omega arith), tt),
     ),
   ),
@@ -74,7 +74,7 @@ pub sound_where : (bytes : List ℕ) → NoneGiven (table_refusals bytes) → So
 unfolding answer2 answer3 answer4 bad_section bad_row
 sound_where bytes p = record {
   header = no_row_given (row_fault Reading 0 (header_row bytes)) (answer 2 0 0) p.1.0;
-  exact = eqb-true (length bytes) (from bytes 6) (picked_none (eqb (length bytes) (from bytes 6)) (answer 3 0 0 0) none p.1.1.0).0;
+  exact = eqb-true (length bytes) (from bytes 6) (picked_none (eqb (length bytes) (from bytes 6)) (answer 3 0 0 0) None p.1.1.0).0;
   good =
       clean_was (λ s i. row_fault Reading (kind_in bytes s) (row bytes s i)) (rows bytes)
       (no_row_given (bad_section bytes) (λ s. answer_at_row bytes s (number_or0 (bad_row bytes s))) p.1.1.1.0);
@@ -103,13 +103,13 @@ pub unpack_is : (bytes : List ℕ) (before : Lists) → Sound bytes → 14 ≤ l
     → unpack_answer bytes before ≡ accepted
 unfolding unpack_answer answer1 answer2 answer3 answer4 answer11 short_list first_given bad_section bad_row
 unpack_is bytes before sound long room =
-    let none1 : answer1 bytes ≡ none = rw (le-ltb (length bytes) 14 long) in
-    let none2 : answer2 bytes ≡ none = rw (sound.header, answer2) in
-    let none3 : answer3 bytes ≡ none = rw (eq-eqb (length bytes) (from bytes 6) sound.exact) in
-    let none4 : answer4 bytes ≡ none = rw (clean_is (λ s i. row_fault Reading (kind_in bytes s) (row bytes s i)) (rows bytes) sound.good, answer4) in
+    let none1 : answer1 bytes ≡ None = rw (le-ltb (length bytes) 14 long) in
+    let none2 : answer2 bytes ≡ None = rw (sound.header, answer2) in
+    let none3 : answer3 bytes ≡ None = rw (eq-eqb (length bytes) (from bytes 6) sound.exact) in
+    let none4 : answer4 bytes ≡ None = rw (clean_is (λ s i. row_fault Reading (kind_in bytes s) (row bytes s i)) (rows bytes) sound.good, answer4) in
     let test : ℕ → Bool = λ s. ltb (length (list_for before s)) (length (list_for (unpacked bytes) s)) in
     let short = least_none test 0 6 (λ s _ _. le-ltb _ _ (room s)) in
-    let none11 : answer11 bytes before ≡ none = rw (short, answer11) in
+    let none11 : answer11 bytes before ≡ None = rw (short, answer11) in
     rw (none1, none2, none3, none4, none11)
 
 -- ---- lists
@@ -117,8 +117,8 @@ unpack_is bytes before sound long room =
 pub record Writable (ls : Lists) : Type 0 where
   pub header_list : length ls.header ≡ length header_names
   pub full : (s : ℕ) → suc s < 6 → length (list_for ls (suc s)) ≡ records_in ls (suc s) * listed (suc s)
-  pub header : row_fault Writing 0 (header_for ls) ≡ none
-  pub good : (s i : ℕ) → suc s < 6 → i < records_in ls (suc s) → row_fault Writing (kind_for ls (suc s)) (meant_row ls (suc s) i) ≡ none
+  pub header : row_fault Writing 0 (header_for ls) ≡ None
+  pub good : (s i : ℕ) → suc s < 6 → i < records_in ls (suc s) → row_fault Writing (kind_for ls (suc s)) (meant_row ls (suc s) i) ≡ None
 
 -- no list is broken exactly if each has the numbers of its rows
 abbrev Full : Lists → Type 0
@@ -141,7 +141,7 @@ whole_is ls w = ap not (none_is _ (least_none (λ s. not (whole_list ls s)) 0 6 
 pub write_was : (ls : Lists) (room : ℕ) → write_answer ls room ≡ accepted → Writable ls
 unfolding write_answer write2 write4 answer_at_record bad_list bad_record count numbers_in list_for
 write_was ls room e =
-    let header : Option Answer = elim (row_fault Writing 0 (header_for ls)) [ none ↦ none | some test ↦ some (answer 2 0 0 test) ] in
+    let header : Option Answer = elim (row_fault Writing 0 (header_for ls)) [ None ↦ None | Some test ↦ Some (answer 2 0 0 test) ] in
     let at : ℕ → Answer = λ s. answer_at_record ls s (number_or0 (bad_record ls s)) in
     let refuse2 = row_refuses (row_fault Writing 0 (header_for ls)) (answer 2 0 0) (λ test. omega arith) in
     let refuse : Refuse (write2 ls ∷ write4 ls ∷ []) =
@@ -162,7 +162,7 @@ write_was ls room e =
 pub write_is : (ls : Lists) (room : ℕ) → Writable ls → table_size ls ≤ room → write_answer ls room ≡ accepted
 unfolding write_answer write2 write4 write11 first_given bad_list bad_record
 write_is ls room w h =
-    let none2 : write2 ls ≡ none = rw (whole_is ls w, w.header, write2) in
-    let none4 : write4 ls ≡ none = rw (clean_is (λ s i. row_fault Writing (kind_for ls s) (meant_row ls s i)) (records_in ls) w.good, write4) in
-    let none11 : write11 ls room ≡ none = rw (le-leb (table_size ls) room h) in
+    let none2 : write2 ls ≡ None = rw (whole_is ls w, w.header, write2) in
+    let none4 : write4 ls ≡ None = rw (clean_is (λ s i. row_fault Writing (kind_for ls s) (meant_row ls s i)) (records_in ls) w.good, write4) in
+    let none11 : write11 ls room ≡ None = rw (le-leb (table_size ls) room h) in
     rw (none2, none4, none11)

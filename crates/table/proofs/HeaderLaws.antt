@@ -2,7 +2,7 @@
 -- Assumes nothing.
 use mathlib.Core.Path.{◌≡◌, refl, sym, ap, ◌∙◌}
 use mathlib.Core.List.{List, [], ◌∷◌, map}
-use mathlib.Core.Option.{none}
+use Rattle.std.specs.Prelude.{None}
 use Prim.Native.Nat.{ℕ, zero, suc, ◌^◌, ◌≤◌, ◌<◌}
 use native.Mathlib.Decide.{dec_lt}
 use native.Mathlib.Omega.{arith}
@@ -32,18 +32,18 @@ use Rattle.table.proofs.SectionLaws.{padding_at, start_most, from_most}
 
 -- ---- the numbers
 -- either way they stay what they are
-pub header_stays : (way : Way) (row : List ℕ) → row_fault way 0 row ≡ none → (k : ℕ) → k < 10 → get_or (converted way (layout 0) row) k 0 ≡ get_or row k 0
+pub header_stays : (way : Way) (row : List ℕ) → row_fault way 0 row ≡ None → (k : ℕ) → k < 10 → get_or (converted way (layout 0) row) k 0 ≡ get_or row k 0
 unfolding number_at is_number layout_in
 header_stays way row e k h = same_number way 0 row (faultless way 0 row e) k (at (number_at (layout 0)) 10 tt k h)
 
 -- so are the counts
-pub header_rows : (bytes : List ℕ) → row_fault Reading 0 (header_row bytes) ≡ none → (s : ℕ) → suc s < 6
+pub header_rows : (bytes : List ℕ) → row_fault Reading 0 (header_row bytes) ≡ None → (s : ℕ) → suc s < 6
     → get_or (converted Reading (layout 0) (header_row bytes)) (suc s) 0 ≡ rows bytes (suc s)
 unfolding rows
 header_rows bytes e s h = header_stays Reading (header_row bytes) e (suc s) (omega arith)
 
 -- and the version, which the lists then have
-pub version_meant : (bytes : List ℕ) → row_fault Reading 0 (header_row bytes) ≡ none → version_for (unpacked bytes) ≡ version bytes
+pub version_meant : (bytes : List ℕ) → row_fault Reading 0 (header_row bytes) ≡ None → version_for (unpacked bytes) ≡ version bytes
 unfolding unpacked header_of version named index_in number_of layout_in
 version_meant bytes e = header_stays Reading (header_row bytes) e 0 (omega arith)
 
@@ -128,7 +128,7 @@ few_bits : (s : ℕ) → s < 6 → 2 ^ get_or (widths 0) s 0 ≤ 4096
 unfolding widths layout_in
 few_bits s h = leb→le _ _ (at (λ k. leb (2 ^ get_or (widths 0) k 0) 4096) 6 tt s h)
 
-pub counts_short : (ls : Lists) → Fit (widths 0) (converted Writing (layout 0) (header_for ls)) → row_fault Writing 0 (header_for ls) ≡ none
+pub counts_short : (ls : Lists) → Fit (widths 0) (converted Writing (layout 0) (header_for ls)) → row_fault Writing 0 (header_for ls) ≡ None
     → start (version_for ls) (count ls) 6 ≤ 2 ^ 32
 unfolding count
 counts_short ls fit e = omega (arith, start_most (version_for ls) (count ls) 6 few)

@@ -1,5 +1,6 @@
 pub mod LentLaws
 pub mod FirstLaws
+pub mod RefusalLaws
 pub mod ListsLaws
 pub mod AnswerLaws
 pub mod SectionLaws

@@ -2,7 +2,7 @@
 -- Assumes nothing.
 use mathlib.Core.Path.{◌≡◌, refl, sym, ap, ◌∙◌}
 use mathlib.Core.List.{List, map}
-use mathlib.Core.Option.{none}
+use Rattle.std.specs.Prelude.{None}
 use Prim.Native.Nat.{ℕ, zero, suc, ◌+◌, ◌*◌, ◌^◌, ◌≤◌, ◌<◌}
 use native.Mathlib.Omega.{arith}
 use lib.ListN.{length, get_or, take}
@@ -30,7 +30,7 @@ use Rattle.table.proofs.UnpackLaws.{list_is}
 pub record Back (ls : Lists) (s i : ℕ) : Type 0 where
   pub same : converted Reading (layout (kind_for ls s)) (stored_row ls s i) ≡ meant ls s i
   pub fit : Fit (widths (kind_for ls s)) (stored_row ls s i)
-  pub good : row_fault Reading (kind_for ls s) (stored_row ls s i) ≡ none
+  pub good : row_fault Reading (kind_for ls s) (stored_row ls s i) ≡ None
 
 module _ (ls : Lists) (w : Writable ls) (back : (s i : ℕ) → s < 6 → i < count ls s → Back ls s i) where
   abbrev v : ℕ

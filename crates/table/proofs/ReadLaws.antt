@@ -3,8 +3,9 @@
 use Prim.Native.Nat.{ℕ, suc, ◌*◌, ◌≤◌, ◌<◌}
 use mathlib.Core.List.{List}
 use mathlib.Core.Logic.{◌⊎◌, inl, inr, ⊎_elim}
-use mathlib.Core.Option.{Option, none, some, some-ne-none}
-use mathlib.Core.Path.{◌≡◌, refl, ap, ◌∙◌}
+use Rattle.std.specs.Prelude.{Option, None, Some}
+use Rattle.std.proofs.lemmas.Option.{none-some}
+use mathlib.Core.Path.{◌≡◌, refl, ap, ◌∙◌, sym}
 use native.Mathlib.Omega.{arith}
 use borrow.Author.Tests.{eq-eqb, ne_eqb}
 use lib.ListN.{get_or, take, drop}
@@ -43,13 +44,13 @@ use Rattle.table.proofs.ReadingLaws.{few, read_accepts}
 use Rattle.table.proofs.HeldLaws.{system_row, vl_row, stream_row_lem, port_row}
 
 -- ---- 5 is not given
-no_bad_section : (net : Network) → answer5 net ≡ none → (s : ℕ) → 2 ≤ s → s < 6 → bad_reference net s ≡ none
+no_bad_section : (net : Network) → answer5 net ≡ None → (s : ℕ) → 2 ≤ s → s < 6 → bad_reference net s ≡ None
 unfolding answer5 bad_ref_section
 no_bad_section net e s a b = no_row_was (bad_reference net) 2 4 (go (bad_ref_section net) e) s a (omega arith)
   where
-    go : (o : Option ℕ) → ◌≡◌ {A = Option Answer} (elim o [ none ↦ none | some t ↦ some (answer_at_reference net t (number_or0 (bad_reference net t))) ]) none → o ≡ none
-    go none h = refl
-    go (some t) h = absurd (some-ne-none _ h)
+    go : (o : Option ℕ) → ◌≡◌ {A = Option Answer} (elim o [ None ↦ None | Some t ↦ Some (answer_at_reference net t (number_or0 (bad_reference net t))) ]) None → o ≡ None
+    go None h = refl
+    go (Some t) h = absurd (none-some _ (sym h))
 
 pub read_references : (bytes : List ℕ) → read_answer bytes ≡ accepted → References (network_in bytes)
 read_references bytes e =

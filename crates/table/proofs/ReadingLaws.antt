@@ -2,7 +2,7 @@
 -- the reader goes on. Assumes nothing.
 use Prim.Native.Nat.{ℕ, suc, ◌≤◌, ◌<◌}
 use mathlib.Core.List.{List, [], ◌∷◌, ◌++◌}
-use mathlib.Core.Option.{Option, none}
+use Rattle.std.specs.Prelude.{Option, None}
 use mathlib.Core.Path.{◌≡◌, sym, ap}
 use native.Mathlib.Omega.{arith}
 use Rattle.base.specs.Tests.{number_or0}
@@ -33,7 +33,7 @@ read_refuse bytes =
     (four.0, (four.1.0, (four.1.1.0, (four.1.1.1.0, (five, (six, tt))))))
 
 -- ---- the counts of a good header are in 01's limits
-pub few : (bytes : List ℕ) → row_fault Reading 0 (header_row bytes) ≡ none → (s : ℕ) → suc s < 6 → rows bytes (suc s) ≤ most (suc s)
+pub few : (bytes : List ℕ) → row_fault Reading 0 (header_row bytes) ≡ None → (s : ℕ) → suc s < 6 → rows bytes (suc s) ≤ most (suc s)
 few bytes ok s h = omega (arith, (header_plain (header_row bytes) ok).counts s h, header_rows bytes ok s h)
 
 -- ---- the table's own answer, 1 to 4: its refusal is the reader's, and where it accepts, the reader goes on with 5 and 6
@@ -56,7 +56,7 @@ module _ (bytes : List ℕ) where
   read_accepted e = none_accepts (read_refusals bytes) (none_given (read_refusals bytes) (read_refuse bytes) e)
 
 -- ---- what acceptance by the reader says: nothing was given
-pub read_accepts : (bytes : List ℕ) → read_answer bytes ≡ accepted → Sound bytes × (answer5 (network_in bytes) ≡ none)
+pub read_accepts : (bytes : List ℕ) → read_answer bytes ≡ accepted → Sound bytes × (answer5 (network_in bytes) ≡ None)
 unfolding read_answer
 read_accepts bytes e =
     let p = none_given (read_refusals bytes) (read_refuse bytes) (ap (λ (a : Answer). a.number) e) in

@@ -4,7 +4,7 @@ use mathlib.Core.Path.{◌≡◌, refl, sym, ap, ap₂, ◌∙◌}
 use mathlib.Core.Bool.{Bool, true, false}
 use mathlib.Core.List.{List, [], ◌∷◌, ◌++◌}
 use mathlib.Core.Logic.{⊎_elim}
-use mathlib.Core.Option.{none, some}
+use Rattle.std.specs.Prelude.{None, Some}
 use Prim.Native.Nat.{ℕ, zero, suc, ◌+◌, ◌-◌, ◌*◌, ◌^◌, ◌≤◌, ◌<◌}
 use native.Mathlib.Nat.{le_of_suc-le-suc, eq-or-lt_of_le, mul-le-mul, mul-le-mul_right}
 use native.Mathlib.Omega.{arith}
@@ -33,7 +33,7 @@ padding_means : (s k n : ℕ) → listed_in (layout s) ≤ k → number_or0 (con
 unfolding convert meaning number_or0
 padding_means s k n h = ap (λ (kind : Kind). number_or0 (meaning kind n)) (unlisted s k h) ∙ go (eqb n 0)
   where
-    go : (t : Bool) → number_or0 (pick t (some 0) none) ≡ 0
+    go : (t : Bool) → number_or0 (pick t (Some 0) None) ≡ 0
     go true = refl
     go false = refl
 

@@ -2,7 +2,7 @@
 -- Assumes nothing.
 use mathlib.Core.Path.{◌≡◌, refl, sym, ap, ◌∙◌}
 use mathlib.Core.List.{List, ◌++◌}
-use mathlib.Core.Option.{none}
+use Rattle.std.specs.Prelude.{None}
 use Prim.Native.Nat.{ℕ, zero, suc, ◌+◌, ◌-◌, ◌*◌, ◌^◌, ◌≤◌, ◌<◌}
 use native.Mathlib.Nat.{div-eq_of_eq-mul_left}
 use native.Mathlib.Omega.{arith}
@@ -26,7 +26,7 @@ use Rattle.table.proofs.HeaderLaws.{header_rows, version_meant, first_row, heade
 -- a row of the table, read and written again: it is the same, and what it means has no fault
 pub record Again (bytes : List ℕ) (s i : ℕ) : Type 0 where
   pub same : converted Writing (layout (kind_in bytes s)) (converted Reading (layout (kind_in bytes s)) (row bytes s i)) ≡ row bytes s i
-  pub good : row_fault Writing (kind_in bytes s) (converted Reading (layout (kind_in bytes s)) (row bytes s i)) ≡ none
+  pub good : row_fault Writing (kind_in bytes s) (converted Reading (layout (kind_in bytes s)) (row bytes s i)) ≡ None
 
 module _ (bytes : List ℕ) where
   -- ---- the counts
@@ -51,7 +51,7 @@ module _ (bytes : List ℕ) where
     short : length bytes ≤ 2 ^ 32
     short = header_short bytes sound.exact
 
-    pub sound_rows : (s i : ℕ) → s < 6 → i < rows bytes s → row_fault Reading (kind_in bytes s) (row bytes s i) ≡ none
+    pub sound_rows : (s i : ℕ) → s < 6 → i < rows bytes s → row_fault Reading (kind_in bytes s) (row bytes s i) ≡ None
     sound_rows zero i h l = rw (first_row bytes short i l, header_kind (version bytes)) sound.header
     sound_rows (suc s) i h l = sound.good s i h l
 
@@ -100,7 +100,7 @@ module _ (bytes : List ℕ) where
           ∙ ap (λ (a : ℕ). read_all bytes (8 * a + i * total (widths k)) (widths k))
           (sym (starts_are s (omega arith)) ∙ ap (λ (w : ℕ). start w (count (unpacked bytes)) s) same_version)))
 
-      meant_good : (s i : ℕ) → s < 6 → i < count (unpacked bytes) s → row_fault Writing (kind_for (unpacked bytes) s) (meant (unpacked bytes) s i) ≡ none
+      meant_good : (s i : ℕ) → s < 6 → i < count (unpacked bytes) s → row_fault Writing (kind_for (unpacked bytes) s) (meant (unpacked bytes) s i) ≡ None
       meant_good s i h l = let low = rw (count_is s h) at l in rw (same_version, row_meant s i h low) (again s i h low).good
 
       pub writable : Writable (unpacked bytes)

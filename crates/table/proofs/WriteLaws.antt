@@ -2,7 +2,7 @@
 -- Assumes nothing.
 use mathlib.Core.Path.{◌≡◌, sym, ap, ◌∙◌}
 use mathlib.Core.List.{List, []}
-use mathlib.Core.Option.{none}
+use Rattle.std.specs.Prelude.{None}
 use Prim.Native.Nat.{ℕ, zero, suc, ◌+◌, ◌-◌, ◌*◌, ◌≤◌, ◌<◌}
 use native.Mathlib.Nat.{mul-le-mul_right}
 use native.Mathlib.Omega.{arith}
@@ -92,7 +92,7 @@ module _ (ls : Lists) where
 
   -- ---- lists of whole records
   module _ (w : Writable ls) where
-    pub good_rows : (s i : ℕ) → s < 6 → i < count ls s → row_fault Writing (kind_for ls s) (meant ls s i) ≡ none
+    pub good_rows : (s i : ℕ) → s < 6 → i < count ls s → row_fault Writing (kind_for ls s) (meant ls s i) ≡ None
     unfolding count meant
     good_rows zero i h l = rw (header_kind v) w.header
     good_rows (suc s) i h l = w.good s i h l

@@ -1,7 +1,6 @@
 -- 01, Answers by number: "An answer carries number, section and row. They are tested in this order, the first bad row of the
 -- lowest section first." Assumes nothing.
-use Rattle.std.specs.Prelude.{ℕ, List, [], ◌∷◌}
-use Rattle.std.proofs.Math.Option.{Option, none, some}
+use Rattle.std.specs.Prelude.{ℕ, List, [], ◌∷◌, Option, None, Some}
 use Rattle.table.specs.declared.Answer.{Answer}
 
 -- number, section, row, and the place of the named test that failed among its tests; 0 where the number has but one
@@ -16,5 +15,5 @@ accepted = answer 0 0 0 0
 -- "tested in this order": the first refusal that is given, and acceptance where none is
 unfoldable pub first_given : List (Option Answer) → Answer
 first_given [] = accepted
-first_given (none ∷ os) = first_given os
-first_given (some a ∷ os) = a
+first_given (None ∷ os) = first_given os
+first_given (Some a ∷ os) = a

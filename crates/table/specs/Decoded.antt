@@ -1,6 +1,6 @@
 -- The network that lists of numbers describe, by the rules of a tick: milliseconds, Mbit/s and the table's units become ticks, and a
 -- parent's row + 1 becomes its row. Assumes nothing.
-use Rattle.std.specs.Prelude.{ℕ, zero, suc, ◌*◌, List, eqb}
+use Rattle.std.specs.Prelude.{ℕ, zero, suc, ◌*◌, List, eqb, Option, None, Some}
 use Rattle.base.specs.Pick.{pick}
 use Rattle.base.specs.Tabulate.{tabulate}
 use Rattle.frame.specs.Tick.{TickRules, in_force}
@@ -12,8 +12,6 @@ use Rattle.network.specs.declared.Vl.{Vl}
 use Rattle.network.specs.declared.Stream.{Stream}
 use Rattle.network.specs.declared.Port.{Port}
 use Rattle.network.specs.declared.Hop.{Hop}
-use Rattle.network.specs.declared.Parent.{Parent}
-use Rattle.network.specs.declared.Parent.TheVariants.{Root, After}
 use Rattle.network.specs.Network.{Network}
 use Rattle.table.specs.Lists.{Lists, records_in, record_at, header_at}
 
@@ -22,9 +20,9 @@ unfoldable pub ticks_at : TickRules → ℕ → ℕ
 ticks_at tick mbit = pick (eqb mbit 100) (tick.per_byte Mbit100) (tick.per_byte Mbit10)
 
 -- a parent as it is stored: 0 for none, else its row + 1
-unfoldable pub parent_of : ℕ → Parent
-parent_of zero = Root
-parent_of (suc g) = After g
+unfoldable pub parent_of : ℕ → Option ℕ
+parent_of zero = None
+parent_of (suc g) = Some g
 
 -- ---- a record from its numbers
 unfoldable pub system_in : TickRules → List ℕ → EndSystem

@@ -1,6 +1,8 @@
 pub mod Answers
+pub mod Refusals
 pub mod Sections
 pub mod Lists
+pub mod Lent
 pub mod Unpack
 pub mod Write
 pub mod RoundTrip

@@ -1,7 +1,6 @@
 -- 01, Answers by number: the reader's answers 1 to 6, in 01's order, and the network of an accepted table.
 -- Assumes nothing.
-use Rattle.std.specs.Prelude.{ℕ, List, [], ◌∷◌}
-use Rattle.std.proofs.Math.Option.{Option, none, some}
+use Rattle.std.specs.Prelude.{ℕ, List, [], ◌∷◌, Option, None, Some}
 use Rattle.base.specs.Least.{least_from}
 use Rattle.base.specs.Tests.{is_some, number_or0}
 use Rattle.network.specs.Network.{Network}
@@ -24,11 +23,11 @@ unfoldable pub answer_at_reference : Network → ℕ → ℕ → Answer
 answer_at_reference net section i = answer 5 section i (number_or0 (ref_fault net section i))
 
 unfoldable pub answer5 : Network → Option Answer
-answer5 net = elim (bad_ref_section net) [ none ↦ none | some s ↦ some (answer_at_reference net s (number_or0 (bad_reference net s))) ]
+answer5 net = elim (bad_ref_section net) [ None ↦ None | Some s ↦ Some (answer_at_reference net s (number_or0 (bad_reference net s))) ]
 
 -- "6: a sampling message needs more than one packet": section 3, the stream
 unfoldable pub answer6 : Network → Option Answer
-answer6 net = elim (bad_sample net) [ none ↦ none | some s ↦ some (answer 6 3 s 0) ]
+answer6 net = elim (bad_sample net) [ None ↦ None | Some s ↦ Some (answer 6 3 s 0) ]
 
 unfoldable pub read_answer : List ℕ → Answer
 read_answer bytes =

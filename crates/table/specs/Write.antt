@@ -1,7 +1,6 @@
 -- 01, Answers by number: "The writer takes its counts from its lists and gives 2 (also for a list that is no whole number of records),
 -- 4 (also for a value wider than its field), 11." And what it leaves in the lent bytes. Assumes nothing.
-use Rattle.std.specs.Prelude.{ℕ, zero, suc, ◌-◌, ◌*◌, Bool, not, List, [], ◌∷◌, ◌++◌, ◌≡◌, leb, eqb, length, replicate}
-use Rattle.std.proofs.Math.Option.{Option, none, some}
+use Rattle.std.specs.Prelude.{ℕ, zero, suc, ◌-◌, ◌*◌, Bool, not, List, [], ◌∷◌, ◌++◌, ◌≡◌, leb, eqb, length, replicate, Option, None, Some, Result, Ok, Err}
 use Rattle.base.specs.Pick.{pick}
 use Rattle.base.specs.Least.{least_from}
 use Rattle.base.specs.Tabulate.{tabulate}
@@ -12,8 +11,9 @@ use Rattle.layout.specs.Layout.{layout, header_names, widths}
 use Rattle.base.specs.Tests.{is_some, number_or0}
 use Rattle.layout.specs.Rows.{converted, listed, row_fault}
 use Rattle.table.specs.declared.Answer.{Answer}
-use Rattle.table.specs.declared.Written.{Written}
-use Rattle.table.specs.Answers.{answer, first_given}
+use Rattle.table.specs.declared.Refusal.{Refusal}
+use Rattle.table.specs.Answers.{answer, accepted, first_given}
+use Rattle.table.specs.Refusals.{answer_of}
 use Rattle.table.specs.Sections.{start, lent}
 use Rattle.table.specs.Lists.{Lists, list_for, records_in, record_at, header_at, version_for, kind_for}
 
@@ -57,8 +57,8 @@ whole ls = not (is_some (least_from (λ s. not (whole_list ls s)) 0 6))
 unfoldable pub write2 : Lists → Option Answer
 write2 ls =
     pick (whole ls)
-    (elim (row_fault Writing 0 (header_for ls)) [ none ↦ none | some test ↦ some (answer 2 0 0 test) ])
-    (some (answer 2 0 0 0))
+    (elim (row_fault Writing 0 (header_for ls)) [ None ↦ None | Some test ↦ Some (answer 2 0 0 test) ])
+    (Some (answer 2 0 0 0))
 
 -- 4: a value that is out of range, or wider than its field
 unfoldable pub bad_record : Lists → ℕ → Option ℕ
@@ -71,7 +71,7 @@ unfoldable pub answer_at_record : Lists → ℕ → ℕ → Answer
 answer_at_record ls section i = answer 4 section i (number_or0 (row_fault Writing (kind_for ls section) (meant_row ls section i)))
 
 unfoldable pub write4 : Lists → Option Answer
-write4 ls = elim (bad_list ls) [ none ↦ none | some s ↦ some (answer_at_record ls s (number_or0 (bad_record ls s))) ]
+write4 ls = elim (bad_list ls) [ None ↦ None | Some s ↦ Some (answer_at_record ls s (number_or0 (bad_record ls s))) ]
 
 -- a row as it is stored
 abbrev pub stored_row : Lists → ℕ → ℕ → List ℕ
@@ -93,13 +93,22 @@ packed ls = put_table (replicate (table_size ls) 0) 0 (sections ls) (parts ls)
 
 -- "11: writer or unpacker: a lent result is too short"
 unfoldable pub write11 : Lists → ℕ → Option Answer
-write11 ls room = pick (leb (table_size ls) room) none (some (answer 11 0 0 0))
+write11 ls room = pick (leb (table_size ls) room) None (Some (answer 11 0 0 0))
 
 unfoldable pub write_answer : Lists → ℕ → Answer
 write_answer ls room = first_given (write2 ls ∷ write4 ls ∷ write11 ls room ∷ [])
 
 unfoldable pub writes : Lists → ℕ → Bool
 writes ls room = eqb (write_answer ls room).number 0
+
+-- the answer, and how many bytes the table has: none on a refusal
+pub record Written : Type 0 where
+  pub answer : Answer
+  pub length : ℕ
+
+unfoldable pub written_by : Result ℕ Refusal → Written
+written_by (Ok n) = record { answer = accepted; length = n }
+written_by (Err r) = record { answer = answer_of r; length = 0 }
 
 -- what the writer promises: its answer, the table's length, and what the lent bytes hold at the end
 pub record Writes (ls : Lists) (room : ℕ) (r : Written) (out : List ℕ) : Type 0 where
