@@ -1,16 +1,14 @@
 -- A word that is found is the first of the words from a place on, and the place behind it is behind one word; and what answers say of a field.
 -- Assumes nothing.
-use Prim.Native.Nat.{ℕ, zero, suc, ◌+◌, ◌-◌, ◌^◌, ◌≤◌, ◌<◌, min}
+use Prim.Native.Nat.{ℕ, zero, suc, ◌+◌, ◌-◌, ◌≤◌, ◌<◌}
 use mathlib.Core.Path.{◌≡◌, sym, ap, ◌∙◌}
 use mathlib.Core.List.{List, [], ◌∷◌}
-use mathlib.Core.Option.{Option, none, some}
+use Rattle.std.specs.Prelude.{Option, None, Some}
 use native.Mathlib.Omega.{arith}
 use lib.ListN.{length}
 use Rattle.words.specs.declared.Span.{Span}
-use Rattle.words.specs.declared.Numeral.{Numeral}
-use Rattle.words.specs.declared.Numeral.TheVariants.{Number, NotANumber}
-use Rattle.words.specs.Words.{words_of, numeral}
-use Rattle.words.specs.Places.{part, word_at, told}
+use Rattle.words.specs.Words.{words_of}
+use Rattle.words.specs.Places.{part, word_at}
 use Rattle.words.proofs.WordLaws.{words_step, words_last}
 use Rattle.layout.specs.declared.Name.{Name}
 use Rattle.notation.specs.declared.Form.TheVariants.{Parent}
@@ -18,10 +16,9 @@ use Rattle.notation.specs.Notation.{form_of}
 use Rattle.notation.specs.Meant as meant
 use Rattle.notation.specs.Meant.{taken, row_from, field_from}
 use Rattle.notation.specs.Steps.{parent_from}
-use Rattle.notation.proofs.MeantLaws.{row_said, row_wrong, field_parent}
-use Rattle.fields.specs.declared.Taken.{Taken}
-use Rattle.fields.specs.declared.Taken.TheVariants.{Said, NotSaid}
-use Rattle.fields.specs.Fields.{words_from, place_behind, Behind, taken_at, taken_in, BehindTaken, Takes}
+use Rattle.notation.proofs.MeantLaws.{field_parent}
+use Rattle.fields.specs.declared.Said.{Said}
+use Rattle.fields.specs.Fields.{words_from, place_behind, Behind, taken_in, BehindTaken, Takes}
 
 -- ---- places
 pub behind_here : (text : List ℕ) (at end : ℕ) → Behind text at end at
@@ -60,61 +57,41 @@ module _ (text : List ℕ) (at end : ℕ) (word : Span) (is : word ≡ word_at t
       record { fewer = omega (arith, ap length (one_more h)); place = rw (e, is) }
 
 -- ---- a field
-pub told_number : (x : Numeral) (n : ℕ) → x ≡ Number n → told x ≡ some n
-unfolding told
-told_number x n e = rw e
-
-pub told_none : (x : Numeral) → x ≡ NotANumber → told x ≡ none
-unfolding told
-told_none x e = rw e
-
 module _ (text : List ℕ) (at end : ℕ) where
-  pub takes_none : (says : Option meant.Taken) → says ≡ none → Takes text at end says NotSaid
+  pub takes_none : (says : Option meant.Taken) → says ≡ None → Takes text at end says None
   unfolding taken_in BehindTaken
   takes_none says e = record { said = sym e; behind = tt }
 
-  pub takes_said : (says : Option meant.Taken) (v next : ℕ) → says ≡ taken (some v) (words_of (part text next end)) → Behind text at end next
-      → Takes text at end says (Said v next)
+  pub takes_said : (says : Option meant.Taken) (s : Said) → says ≡ taken (Some s.number) (words_of (part text s.next end))
+      → Behind text at end s.next → Takes text at end says (Some s)
   unfolding taken_in BehindTaken
-  takes_said says v next e b = record { said = sym e; behind = b }
+  takes_said says s e b = record { said = sym e; behind = b }
 
-  pub takes_at : (says : Option meant.Taken) (r : Taken) (o : Option ℕ) (next : ℕ) → r ≡ taken_at o next
-      → says ≡ taken o (words_of (part text next end)) → Behind text at end next → Takes text at end says r
-  unfolding taken_at taken
-  takes_at says r none next e d b = rw e (takes_none says d)
-  takes_at says r (some v) next e d b = rw e (takes_said says v next d b)
-
-  pub takes_later : (says said : Option meant.Taken) (r : Taken) (p : ℕ) → says ≡ said → Behind text at end p → Takes text p end said r → Takes text at end says r
+  pub takes_later : (says said : Option meant.Taken) (r : Option Said) (p : ℕ) → says ≡ said → Behind text at end p → Takes text p end said r → Takes text at end says r
   unfolding BehindTaken
-  takes_later says said (Said v next) p e b t = record { said = t.said ∙ sym e; behind = behind_more text at end p next b t.behind }
-  takes_later says said NotSaid p e b t = record { said = t.said ∙ sym e; behind = tt }
+  takes_later says said None p e b t = record { said = t.said ∙ sym e; behind = tt }
+  takes_later says said (Some s) p e b t = record { said = t.said ∙ sym e; behind = behind_more text at end p s.next b t.behind }
 
 -- ---- by the first word
 module _ (text : List ℕ) (at end : ℕ) (word : Span) (is : word ≡ word_at text at end) (h : word.from < word.to) where
-  pub row_takes : (x : Numeral) (g v : ℕ) → told x ≡ numeral (part text word.from word.to) → x ≡ Number g → v ≡ min (suc g) (2 ^ 64 - 1)
-      → Takes text at end (row_from (words_of (part text at end))) (Said v word.to)
-  row_takes x g v t e d =
-      let w = part text word.from word.to in
-      let ws = words_of (part text word.to end) in
-      takes_said text at end _ v word.to
-      (ap row_from (one_more text at end word is h) ∙ row_said w ws g (sym t ∙ told_number x g e) ∙ ap (λ (n : ℕ). taken (some n) ws) (sym d))
-      (behind_word text at end word is h)
+  abbrev first : List ℕ
+  first = part text word.from word.to
 
-  pub row_not : (x : Numeral) → told x ≡ numeral (part text word.from word.to) → x ≡ NotANumber
-      → Takes text at end (row_from (words_of (part text at end))) NotSaid
-  row_not x t e =
-      takes_none text at end _ (ap row_from (one_more text at end word is h) ∙ row_wrong _ _ (sym t ∙ told_none x e))
+  abbrev rest : List (List ℕ)
+  rest = words_of (part text word.to end)
 
-  -- a field of one word
-  pub word_takes : (n : Name) (x : Numeral) (r : Taken) (o : Option ℕ)
-      → field_from n (part text word.from word.to ∷ words_of (part text word.to end)) ≡ taken o (words_of (part text word.to end))
-      → told x ≡ o → r ≡ taken_at (told x) word.to → Takes text at end (field_from n (words_of (part text at end))) r
-  word_takes n x r o f t e =
-      takes_at text at end _ r o word.to (e ∙ ap (λ (p : Option ℕ). taken_at p word.to) t)
-      (ap (field_from n) (one_more text at end word is h) ∙ f) (behind_word text at end word is h)
+  -- a field of one word: the number that the word stands for, or none
+  pub word_takes : (says : List (List ℕ) → Option meant.Taken) (o : Option ℕ) (v : ℕ) → says (first ∷ rest) ≡ taken o rest → o ≡ Some v
+      → Takes text at end (says (words_of (part text at end))) (Some (record { number = v; next = word.to }))
+  word_takes says o v e d =
+      takes_said text at end _ _ (ap says (one_more text at end word is h) ∙ e ∙ ap (λ (p : Option ℕ). taken p rest) d) (behind_word text at end word is h)
 
-  pub parent_takes : (n : Name) (r : Taken) → form_of n ≡ Parent
-      → Takes text word.to end (parent_from (part text word.from word.to) (words_of (part text word.to end))) r
+  pub word_not : (says : List (List ℕ) → Option meant.Taken) (o : Option ℕ) (r : Option Said) → says (first ∷ rest) ≡ taken o rest → o ≡ None → r ≡ None
+      → Takes text at end (says (words_of (part text at end))) r
+  unfolding taken
+  word_not says o r e d n = rw n (takes_none text at end _ (ap says (one_more text at end word is h) ∙ e ∙ ap (λ (p : Option ℕ). taken p rest) d))
+
+  pub parent_takes : (n : Name) (r : Option Said) → form_of n ≡ Parent → Takes text word.to end (parent_from first rest) r
       → Takes text at end (field_from n (words_of (part text at end))) r
   parent_takes n r f t =
       takes_later text at end _ _ r word.to (ap (field_from n) (one_more text at end word is h) ∙ field_parent n _ _ f)

@@ -1,13 +1,11 @@
 -- What the answers of the routines that read a field say, in the terms of crate `notation`, and by which place they say it.
 -- Assumes nothing.
-use Rattle.std.specs.Prelude.{ℕ, zero, suc, ◌-◌, ◌≤◌, ◌≡◌, List, length}
-use Rattle.std.proofs.Math.Option.{Option, none, some}
+use Rattle.std.specs.Prelude.{ℕ, zero, suc, ◌-◌, ◌≤◌, ◌≡◌, List, length, Option, None, Some}
 use Rattle.words.specs.Words.{words_of}
 use Rattle.words.specs.Places.{part, word_at}
 use Rattle.notation.specs.Meant as meant
 use Rattle.notation.specs.Meant.{taken}
-use Rattle.fields.specs.declared.Taken.{Taken}
-use Rattle.fields.specs.declared.Taken.TheVariants.{Said, NotSaid}
+use Rattle.fields.specs.declared.Said.{Said}
 
 -- ---- places
 -- how many words a text has from a place on, before another
@@ -26,20 +24,15 @@ pub record Behind (text : List ℕ) (at end next : ℕ) : Type 0 where
 
 -- ---- a field
 -- what the answer says of a field
-unfoldable pub taken_in : List ℕ → ℕ → Taken → Option meant.Taken
-taken_in text end (Said v next) = taken (some v) (words_of (part text next end))
-taken_in text end NotSaid = none
+unfoldable pub taken_in : List ℕ → ℕ → Option Said → Option meant.Taken
+taken_in text end None = None
+taken_in text end (Some s) = taken (Some s.number) (words_of (part text s.next end))
 
-unfoldable pub BehindTaken : List ℕ → ℕ → ℕ → Taken → Type 0
-BehindTaken text at end (Said v next) = Behind text at end next
-BehindTaken text at end NotSaid = Unit
+unfoldable pub BehindTaken : List ℕ → ℕ → ℕ → Option Said → Type 0
+BehindTaken text at end None = Unit
+BehindTaken text at end (Some s) = Behind text at end s.next
 
 -- the answer says this of a field, and the place behind
-pub record Takes (text : List ℕ) (at end : ℕ) (says : Option meant.Taken) (r : Taken) : Type 0 where
+pub record Takes (text : List ℕ) (at end : ℕ) (says : Option meant.Taken) (r : Option Said) : Type 0 where
   pub said : taken_in text end r ≡ says
   pub behind : BehindTaken text at end r
-
--- the answer, by the number that a word stands for and the place behind the word
-unfoldable pub taken_at : Option ℕ → ℕ → Taken
-taken_at none next = NotSaid
-taken_at (some n) next = Said n next

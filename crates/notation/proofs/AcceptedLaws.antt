@@ -5,7 +5,8 @@ use Prim.Native.Nat.{ℕ, zero, suc, ◌+◌, ◌-◌, ◌*◌, ◌/◌, ◌^◌
 use mathlib.Core.Path.{◌≡◌, refl, sym, ◌∙◌}
 use mathlib.Core.Bool.{Bool, true, false, ◌&&◌, false≢true}
 use mathlib.Core.List.{List, [], ◌∷◌, ◌++◌}
-use mathlib.Core.Option.{none, some, none-ne-some}
+use Rattle.std.specs.Prelude.{None, Some}
+use Rattle.std.proofs.lemmas.Option.{none-some}
 use native.Mathlib.Omega.{arith}
 use native.Mathlib.Nat.{add_comm, mul-le-mul_right}
 use borrow.Author.Tests.{eqb-true, leb-true, ltb-true}
@@ -50,16 +51,16 @@ within_most a b n e = go (leb a n) e
     go true k = leb-true n b k
     go false k = absurd (false≢true k)
 
-speed_most : (width v n : ℕ) → stored_as Speed width v ≡ some n → v ≤ 100
+speed_most : (width v n : ℕ) → stored_as Speed width v ≡ Some n → v ≤ 100
 unfolding stored_as
 speed_most width v n e = go (eqb v 100) (eqb v 10) (eqb-true v 100) (eqb-true v 10) e
   where
-    go : (a b : Bool) → (a ≡ true → v ≡ 100) → (b ≡ true → v ≡ 10) → pick a (some 0) (pick b (some 1) none) ≡ some n → v ≤ 100
+    go : (a b : Bool) → (a ≡ true → v ≡ 100) → (b ≡ true → v ≡ 10) → pick a (Some 0) (pick b (Some 1) None) ≡ Some n → v ≤ 100
     go true b f g k = omega (arith, f refl)
     go false true f g k = omega (arith, g refl)
-    go false false f g k = absurd (none-ne-some n k)
+    go false false f g k = absurd (none-some n k)
 
-accepted_most : (s : Shape) (v n : ℕ) → convert Writing s v ≡ some n → v ≤ greatest s.kind s.width
+accepted_most : (s : Shape) (v n : ℕ) → convert Writing s v ≡ Some n → v ≤ greatest s.kind s.width
 unfolding convert greatest stored_as
 accepted_most s v n e = go s.kind refl
   where
@@ -87,7 +88,7 @@ all_tell v (suc (suc (suc (suc (suc zero))))) h = every_kind (λ k. T (tell_all 
 all_tell v (suc (suc (suc (suc (suc (suc s)))))) h = absurd (omega arith)
 
 accepted_sayable : (ss : List Shape) (ns : List ℕ) (f : ℕ → ℕ) → length ns ≡ length ss → T (tell_all ss)
-    → ((k : ℕ) → k < length ss → convert Writing (get_or ss k blank) (get_or ns k 0) ≡ some (f k)) → Sayable ss ns
+    → ((k : ℕ) → k < length ss → convert Writing (get_or ss k blank) (get_or ns k 0) ≡ Some (f k)) → Sayable ss ns
 unfolding Sayable tell_all
 accepted_sayable [] [] f e t h = tt
 accepted_sayable [] (n ∷ ns) f e t h = absurd (omega arith)

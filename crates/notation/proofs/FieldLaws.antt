@@ -5,7 +5,7 @@ use Prim.Native.Nat.{ℕ, zero, suc, ◌-◌, ◌^◌, ◌≤◌, ◌<◌, min}
 use mathlib.Core.Path.{◌≡◌, refl, ap, ◌∙◌}
 use mathlib.Core.Bool.{Bool, true, false, ◌&&◌}
 use mathlib.Core.List.{List, [], ◌∷◌, ◌++◌}
-use mathlib.Core.Option.{Option, none, some}
+use Rattle.std.specs.Prelude.{Option, None, Some}
 use native.Mathlib.Omega.{arith}
 use lib.Dec.{T, eqb, eqb→eq}
 use lib.ListN.{length, get_or}
@@ -27,13 +27,13 @@ use Rattle.notation.specs.Back.{spoken, FieldBack}
 
 -- ---- lists of words
 is_at : ℕ → Option ℕ → Bool
-is_at k none = false
-is_at k (some j) = eqb j k
+is_at k None = false
+is_at k (Some j) = eqb j k
 
-is_at_lem : (k : ℕ) (o : Option ℕ) → T (is_at k o) → o ≡ some k
+is_at_lem : (k : ℕ) (o : Option ℕ) → T (is_at k o) → o ≡ Some k
 unfolding is_at
-is_at_lem k none t = absurd t
-is_at_lem k (some j) t = ap some (eqb→eq j k t)
+is_at_lem k None t = absurd t
+is_at_lem k (Some j) t = ap Some (eqb→eq j k t)
 
 -- word k of these is a word, and found at k
 found : List Word → ℕ → Bool
@@ -41,7 +41,7 @@ found vs k = is_word (get_or vs k []) && is_at k (word_in vs (get_or vs k []))
 
 pub record Found (vs : List Word) (k : ℕ) (w : Word) : Type 0 where
   pub word : is_word w ≡ true
-  pub place : word_in vs w ≡ some k
+  pub place : word_in vs w ≡ Some k
 
 same_word : (vs : List Word) (k : ℕ) (d e : Word) → k < length vs → get_or vs k d ≡ get_or vs k e
 same_word [] k d e h = absurd (omega arith)
@@ -140,19 +140,19 @@ module _ (n : Name) (w : Word) (ws : List Word) where
   choice_from e = rw (e, field_from)
 
   pub parent_from_lem : form_of n ≡ Parent
-      → field_from n (w ∷ ws) ≡ pick (same w none_word) (taken (some 0) ws) (pick (same w after_word) (row_from ws) none)
+      → field_from n (w ∷ ws) ≡ pick (same w none_word) (taken (Some 0) ws) (pick (same w after_word) (row_from ws) None)
   unfolding field_from
   parent_from_lem e = rw (e, field_from)
 
 -- ---- read back
-row_back : (g : ℕ) (rest : List Word) → suc g < 2 ^ 64 → row_from (decimal g ∷ rest) ≡ some (record { value = suc g; rest = rest })
+row_back : (g : ℕ) (rest : List Word) → suc g < 2 ^ 64 → row_from (decimal g ∷ rest) ≡ Some (record { value = suc g; rest = rest })
 unfolding row_from taken
 row_back g rest h =
     let least : min (suc g) (2 ^ 64 - 1) ≡ suc g = omega arith in
     rw ((number_back g (omega arith)).1, row_from, least)
 
 parent_back : (v : ℕ) (rest : List Word) (n : Name) → form_of n ≡ Parent → v < 2 ^ 64
-    → field_from n (parent_words v ++ rest) ≡ some (record { value = v; rest = rest })
+    → field_from n (parent_words v ++ rest) ≡ Some (record { value = v; rest = rest })
 unfolding parent_words taken none_word after_word same
 parent_back zero rest n e h = parent_from_lem n none_word rest e
 parent_back (suc g) rest n e h = parent_from_lem n after_word (decimal g ∷ rest) e ∙ row_back g rest h
@@ -161,7 +161,7 @@ pub field_back : FieldBack
 unfolding spoken taken
 field_back n v rest h = go (form_of n) refl
   where
-    go : (f : Form) → form_of n ≡ f → field_from n (field_words n v ++ rest) ≡ some (record { value = v; rest = rest })
+    go : (f : Form) → form_of n ≡ f → field_from n (field_words n v ++ rest) ≡ Some (record { value = v; rest = rest })
     go Decimal e = rw (decimal_words n v e, decimal_from n (decimal v) rest e, (number_back v (rw (e, spoken) at h)).1)
     go Choice e =
         let w = get_or (choices n) v (decimal v) in

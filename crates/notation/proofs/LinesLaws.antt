@@ -4,7 +4,7 @@ use Prim.Native.Nat.{ℕ, suc, ◌+◌, ◌≤◌, ◌<◌}
 use mathlib.Core.Path.{◌≡◌, refl, ap, ◌∙◌}
 use mathlib.Core.Bool.{Bool, true, false}
 use mathlib.Core.List.{List, [], ◌∷◌, ◌++◌, map}
-use mathlib.Core.Option.{Option, none, some}
+use Rattle.std.specs.Prelude.{Option, None, Some}
 use mathlib.Core.Logic.{◌⊎◌, inl, inr}
 use native.Mathlib.Omega.{arith}
 use native.Mathlib.Decide.{dec_lt}
@@ -76,9 +76,9 @@ fields_length [] (w ∷ ws) = refl
 fields_length (s ∷ ss) ws = ap (λ (x : Said). many_in x (suc (length ss))) (fields_by s ss ws) ∙ go (shape_from s ws) (fields_length ss)
   where
     go : (o : Option Taken) → ((us : List Word) → many_in (fields_from ss us) (length ss) ≡ length ss)
-        → many_in (elim o [ none ↦ wrong 0 ws | some t ↦ with_number t.value (fields_from ss t.rest) ]) (suc (length ss)) ≡ suc (length ss)
-    go none ih = refl
-    go (some t) ih = many_with t.value (fields_from ss t.rest) (length ss) ∙ ap suc (ih t.rest)
+        → many_in (elim o [ None ↦ wrong 0 ws | Some t ↦ with_number t.value (fields_from ss t.rest) ]) (suc (length ss)) ≡ suc (length ss)
+    go None ih = refl
+    go (Some t) ih = many_with t.value (fields_from ss t.rest) (length ss) ∙ ap suc (ih t.rest)
 
 pub record_or_none : (version section : ℕ) (l : List Word)
     → (length (numbers_of section (line_said version l)) ≡ 0) ⊎ (length (numbers_of section (line_said version l)) ≡ fields_of section)
@@ -101,10 +101,10 @@ record_or_none version section (w ∷ ws) = go (word_in keywords w)
     both s (wrong k us) = refl
 
     go : (o : Option ℕ)
-        → (length (numbers_of section (elim o [ none ↦ unknown | some s ↦ of s (fields_from (line_fields version s) ws) ])) ≡ 0)
-        ⊎ (length (numbers_of section (elim o [ none ↦ unknown | some s ↦ of s (fields_from (line_fields version s) ws) ])) ≡ fields_of section)
-    go none = inl refl
-    go (some s) =
+        → (length (numbers_of section (elim o [ None ↦ unknown | Some s ↦ of s (fields_from (line_fields version s) ws) ])) ≡ 0)
+        ⊎ (length (numbers_of section (elim o [ None ↦ unknown | Some s ↦ of s (fields_from (line_fields version s) ws) ])) ≡ fields_of section)
+    go None = inl refl
+    go (Some s) =
         let x = fields_from (line_fields version s) ws in
         rw (both s x) (sized s x (eqb s section) (eqb-true s section) (fields_length (line_fields version s) ws))
 
@@ -124,6 +124,6 @@ whole_line version (w ∷ ws) = go (word_in keywords w)
     whole s (numbers ns) e = e ∙ fields_many version s
     whole s (wrong k us) e = tt
 
-    go : (o : Option ℕ) → WholeLine (elim o [ none ↦ unknown | some s ↦ of s (fields_from (line_fields version s) ws) ])
-    go none = tt
-    go (some s) = whole s (fields_from (line_fields version s) ws) (fields_length (line_fields version s) ws)
+    go : (o : Option ℕ) → WholeLine (elim o [ None ↦ unknown | Some s ↦ of s (fields_from (line_fields version s) ws) ])
+    go None = tt
+    go (Some s) = whole s (fields_from (line_fields version s) ws) (fields_length (line_fields version s) ws)

@@ -4,7 +4,7 @@ use Prim.Native.Nat.{ℕ, suc, ◌-◌, ◌^◌, ◌≤◌, ◌<◌, min}
 use mathlib.Core.Path.{◌≡◌, refl, ap}
 use mathlib.Core.Bool.{Bool, true, false}
 use mathlib.Core.List.{List, [], ◌∷◌, ◌++◌}
-use mathlib.Core.Option.{none, some}
+use Rattle.std.specs.Prelude.{None, Some}
 use lib.Dec.{eqb}
 use lib.ListN.{length, get_or, drop, drop_of_length-le}
 use lib.Seq.{drop-cons}
@@ -19,20 +19,20 @@ use Rattle.notation.specs.Meant.{taken, row_from, field_from, Said, numbers, wro
 use Rattle.notation.specs.Steps.{parent_from, shape_from}
 
 -- ---- a field
-pub row_none : row_from [] ≡ none
+pub row_none : row_from [] ≡ None
 unfolding row_from
 row_none = refl
 
-pub row_wrong : (w : Word) (ws : List Word) → numeral w ≡ none → row_from (w ∷ ws) ≡ none
+pub row_wrong : (w : Word) (ws : List Word) → numeral w ≡ None → row_from (w ∷ ws) ≡ None
 unfolding row_from
 row_wrong w ws e = rw (e, row_from)
 
-pub row_said : (w : Word) (ws : List Word) (g : ℕ) → numeral w ≡ some g
-    → row_from (w ∷ ws) ≡ taken (some (min (suc g) (2 ^ 64 - 1))) ws
+pub row_said : (w : Word) (ws : List Word) (g : ℕ) → numeral w ≡ Some g
+    → row_from (w ∷ ws) ≡ taken (Some (min (suc g) (2 ^ 64 - 1))) ws
 unfolding row_from
 row_said w ws g e = rw (e, row_from)
 
-pub field_none : (n : Name) → field_from n [] ≡ none
+pub field_none : (n : Name) → field_from n [] ≡ None
 unfolding field_from
 field_none n = refl
 
@@ -70,24 +70,24 @@ with_none [] = refl
 with_none (n ∷ ns) = ap (with_number n) (with_none ns)
 
 pub fields_by : (s : Shape) (ss : List Shape) (ws : List Word)
-    → fields_from (s ∷ ss) ws ≡ elim (shape_from s ws) [ none ↦ wrong 0 ws | some t ↦ with_number t.value (fields_from ss t.rest) ]
+    → fields_from (s ∷ ss) ws ≡ elim (shape_from s ws) [ None ↦ wrong 0 ws | Some t ↦ with_number t.value (fields_from ss t.rest) ]
 unfolding fields_from shape_from taken
 fields_by s ss ws = go (eqb s.width 0)
   where
     go : (t : Bool) → pick t (with_number 0 (fields_from ss ws))
-        (elim (field_from s.name ws) [ none ↦ wrong 0 ws | some t ↦ with_number t.value (fields_from ss t.rest) ])
-        ≡ elim (pick t (taken (some 0) ws) (field_from s.name ws)) [ none ↦ wrong 0 ws | some t ↦ with_number t.value (fields_from ss t.rest) ]
+        (elim (field_from s.name ws) [ None ↦ wrong 0 ws | Some t ↦ with_number t.value (fields_from ss t.rest) ])
+        ≡ elim (pick t (taken (Some 0) ws) (field_from s.name ws)) [ None ↦ wrong 0 ws | Some t ↦ with_number t.value (fields_from ss t.rest) ]
     go true = refl
     go false = refl
 
 -- from field k on
 module _ (ss : List Shape) (k : ℕ) (ws : List Word) where
-  pub fields_next : (v : ℕ) (us : List Word) → k < length ss → shape_from (get_or ss k blank) ws ≡ taken (some v) us
+  pub fields_next : (v : ℕ) (us : List Word) → k < length ss → shape_from (get_or ss k blank) ws ≡ taken (Some v) us
       → fields_from (drop k ss) ws ≡ with_number v (fields_from (drop (suc k) ss) us)
   unfolding taken
   fields_next v us h e = rw (drop-cons ss k blank h, fields_by (get_or ss k blank) (drop (suc k) ss) ws, e)
 
-  pub fields_stop : k < length ss → shape_from (get_or ss k blank) ws ≡ none → fields_from (drop k ss) ws ≡ wrong 0 ws
+  pub fields_stop : k < length ss → shape_from (get_or ss k blank) ws ≡ None → fields_from (drop k ss) ws ≡ wrong 0 ws
   fields_stop h e = rw (drop-cons ss k blank h, fields_by (get_or ss k blank) (drop (suc k) ss) ws, e)
 
 pub fields_end : (ss : List Shape) (k : ℕ) → length ss ≤ k → fields_from (drop k ss) [] ≡ numbers []
@@ -103,11 +103,11 @@ pub line_silent : (version : ℕ) → line_said version [] ≡ silent
 unfolding line_said
 line_silent version = refl
 
-pub line_unknown : (version : ℕ) (w : Word) (ws : List Word) → word_in keywords w ≡ none → line_said version (w ∷ ws) ≡ unknown
+pub line_unknown : (version : ℕ) (w : Word) (ws : List Word) → word_in keywords w ≡ None → line_said version (w ∷ ws) ≡ unknown
 unfolding line_said
 line_unknown version w ws e = rw (e, line_said)
 
-pub line_of : (version : ℕ) (w : Word) (ws : List Word) (s : ℕ) → word_in keywords w ≡ some s
+pub line_of : (version : ℕ) (w : Word) (ws : List Word) (s : ℕ) → word_in keywords w ≡ Some s
     → line_said version (w ∷ ws) ≡ of s (fields_from (line_fields version s) ws)
 unfolding line_said
 line_of version w ws s e = rw (e, line_said)

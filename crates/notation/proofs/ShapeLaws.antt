@@ -89,3 +89,6 @@ module _ (version k : ℕ) where
       (λ a b h. get_or-take (listed 5) (layout (kind_of version 5)) k blank h)
       (λ a b h. absurd (b refl))
       (λ s a b h. absurd (omega (arith, none_past (suc (suc (suc (suc (suc (suc (suc s))))))) (omega arith))))
+
+-- each field of a line, and how many they are
+pub ruleset shapes = (fields_few, fields_many, shape_delay, shape_version, shape_record)

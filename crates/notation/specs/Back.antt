@@ -1,8 +1,7 @@
 -- What is printed is read back: the numbers that words can say, the lists that a text can say, and that the text printed for these says
 -- them; and that a text can say what the writer accepts.
 -- Assumes nothing.
-use Rattle.std.specs.Prelude.{ℕ, suc, ◌*◌, ◌/◌, ◌^◌, ◌≤◌, ◌<◌, ◌≡◌, List, [], ◌∷◌, ◌++◌, eqb, length, get_or, take, drop}
-use Rattle.std.proofs.Math.Option.{none, some}
+use Rattle.std.specs.Prelude.{ℕ, suc, ◌*◌, ◌/◌, ◌^◌, ◌≤◌, ◌<◌, ◌≡◌, List, [], ◌∷◌, ◌++◌, eqb, length, get_or, take, drop, None, Some}
 use Rattle.base.specs.Pick.{pick}
 use Rattle.base.specs.Tabulate.{tabulate}
 use Rattle.layout.specs.declared.Name.{Name}
@@ -41,7 +40,7 @@ pub record Printable (lists : ℕ → List ℕ) : Type 0 where
 -- A field: its number, and the words behind.
 abbrev pub FieldBack : Type 0
 FieldBack = (n : Name) (v : ℕ) (rest : List Word) → v < spoken n
-    → field_from n (field_words n v ++ rest) ≡ some (record { value = v; rest = rest })
+    → field_from n (field_words n v ++ rest) ≡ Some (record { value = v; rest = rest })
 
 -- A line: its section, and its numbers.
 abbrev pub LineBack : Type 0
@@ -55,11 +54,11 @@ ReadBack = (lists : ℕ → List ℕ) → Printable lists → (s : ℕ) → s �
 -- What the writer accepts can be said: the numbers of a record in which it finds no fault, and the delays of such a header.
 abbrev pub RecordSayable : Type 0
 RecordSayable = (version section : ℕ) (row : List ℕ) → 1 ≤ section → section ≤ 5 → listed section ≤ length row
-    → row_fault Writing (kind_of version section) row ≡ none → Sayable (line_fields version section) (take (listed section) row)
+    → row_fault Writing (kind_of version section) row ≡ None → Sayable (line_fields version section) (take (listed section) row)
 
 abbrev pub DelaysSayable : Type 0
 DelaysSayable = (version : ℕ) (row : List ℕ) → 10 ≤ length row
-    → row_fault Writing 0 row ≡ none → Sayable (line_fields version 0) (take 4 (drop 6 row))
+    → row_fault Writing 0 row ≡ None → Sayable (line_fields version 0) (take 4 (drop 6 row))
 
 -- The header that the lists ask for: the version, the counts and the delays.
 unfoldable pub header_of : (ℕ → List ℕ) → List ℕ
@@ -68,10 +67,10 @@ header_of lists = take 1 (lists 0) ++ tabulate (λ s. length (lists (suc s)) / l
 -- Lists that the writer accepts: whole records, and no fault in any row; a row goes on with zeros where it has padding.
 pub record Acceptable (lists : ℕ → List ℕ) : Type 0 where
   pub head : length (lists 0) ≡ 5
-  pub header : row_fault Writing 0 (header_of lists) ≡ none
+  pub header : row_fault Writing 0 (header_of lists) ≡ None
   pub whole : (s : ℕ) → 1 ≤ s → s ≤ 5 → length (lists s) / listed s * listed s ≡ length (lists s)
   pub records : (s i : ℕ) → 1 ≤ s → s ≤ 5 → i < length (lists s) / listed s
-      → row_fault Writing (kind_of (get_or (lists 0) 0 1) s) (record_in (lists s) s i) ≡ none
+      → row_fault Writing (kind_of (get_or (lists 0) 0 1) s) (record_in (lists s) s i) ≡ None
 
 -- A text can say them.
 abbrev pub AcceptedPrintable : Type 0

@@ -1,7 +1,6 @@
 -- What a text means: what words say of a field, the words of a line of its fields, and the lines of a text of the lists of a table.
 -- Assumes nothing.
-use Rattle.std.specs.Prelude.{ℕ, zero, suc, ◌-◌, ◌^◌, min, List, [], ◌∷◌, ◌++◌, map, eqb, get_or}
-use Rattle.std.proofs.Math.Option.{Option, none, some}
+use Rattle.std.specs.Prelude.{ℕ, zero, suc, ◌-◌, ◌^◌, min, List, [], ◌∷◌, ◌++◌, map, eqb, get_or, Option, None, Some}
 use Rattle.base.specs.Pick.{pick}
 use Rattle.layout.specs.declared.Name.{Name}
 use Rattle.layout.specs.declared.Shape.{Shape}
@@ -16,21 +15,21 @@ pub record Taken : Type 0 where
   pub rest : List Word
 
 unfoldable pub taken : Option ℕ → List Word → Option Taken
-taken none ws = none
-taken (some v) ws = some (record { value = v; rest = ws })
+taken None ws = None
+taken (Some v) ws = Some (record { value = v; rest = ws })
 
 -- the row behind `after`, + 1 as it is stored; a number above 2 ^ 64 - 1 counts as that
 unfoldable pub row_from : List Word → Option Taken
-row_from [] = none
-row_from (w ∷ ws) = elim (numeral w) [ none ↦ none | some g ↦ taken (some (min (suc g) (2 ^ 64 - 1))) ws ]
+row_from [] = None
+row_from (w ∷ ws) = elim (numeral w) [ None ↦ None | Some g ↦ taken (Some (min (suc g) (2 ^ 64 - 1))) ws ]
 
 -- none where the words do not say the field
 unfoldable pub field_from : Name → List Word → Option Taken
-field_from n [] = none
+field_from n [] = None
 field_from n (w ∷ ws) = elim (form_of n) [
   | Decimal ↦ taken (numeral w) ws
   | Choice ↦ taken (word_in (choices n) w) ws
-  | Parent ↦ pick (same w none_word) (taken (some 0) ws) (pick (same w after_word) (row_from ws) none)
+  | Parent ↦ pick (same w none_word) (taken (Some 0) ws) (pick (same w after_word) (row_from ws) None)
 ]
 
 -- ---- a line
@@ -50,7 +49,7 @@ fields_from [] [] = numbers []
 fields_from [] (w ∷ ws) = wrong 0 (w ∷ ws)
 fields_from (s ∷ ss) ws =
     pick (eqb s.width 0) (with_number 0 (fields_from ss ws))
-    (elim (field_from s.name ws) [ none ↦ wrong 0 ws | some t ↦ with_number t.value (fields_from ss t.rest) ])
+    (elim (field_from s.name ws) [ None ↦ wrong 0 ws | Some t ↦ with_number t.value (fields_from ss t.rest) ])
 
 -- what the words of a line say: nothing, where there are none; a line whose first word is no keyword; or of which section it is, and what
 -- the words behind the keyword say of its fields
@@ -61,7 +60,7 @@ pub data Line : Type 0 where
 
 unfoldable pub line_said : ℕ → List Word → Line
 line_said version [] = silent
-line_said version (w ∷ ws) = elim (word_in keywords w) [ none ↦ unknown | some s ↦ of s (fields_from (line_fields version s) ws) ]
+line_said version (w ∷ ws) = elim (word_in keywords w) [ None ↦ unknown | Some s ↦ of s (fields_from (line_fields version s) ws) ]
 
 -- ---- a text
 -- its lines, each by its words

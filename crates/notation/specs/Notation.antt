@@ -1,8 +1,7 @@
 -- A table as text (examples/README.md, "Writing a table"): the words that begin a line, the fields of a line, and each field in words.
 -- Which fields a line has, and in which order, the layout says; a field that a version does not have, of 0 bits, has no word.
 -- Assumes nothing.
-use Rattle.std.specs.Prelude.{ℕ, zero, suc, List, [], ◌∷◌, get_or, take, drop}
-use Rattle.std.proofs.Math.Option.{Option, none, some}
+use Rattle.std.specs.Prelude.{ℕ, zero, suc, List, [], ◌∷◌, get_or, take, drop, Option, None, Some}
 use Rattle.base.specs.Pick.{pick}
 use Rattle.layout.specs.declared.Name.{Name}
 use Rattle.layout.specs.declared.Name.TheVariants as name
@@ -38,8 +37,8 @@ version_line = 6
 
 -- the place of a word among these; none where it is none of them
 unfoldable pub word_in : List Word → Word → Option ℕ
-word_in [] w = none
-word_in (v ∷ vs) w = pick (same w v) (some 0) (elim (word_in vs w) [ none ↦ none | some k ↦ some (suc k) ])
+word_in [] w = None
+word_in (v ∷ vs) w = pick (same w v) (Some 0) (elim (word_in vs w) [ None ↦ None | Some k ↦ Some (suc k) ])
 
 -- ---- the fields of a line
 -- of the version's line the version, of section 0 the four delays of the header, and of a record all that it has in the lists

@@ -12,10 +12,10 @@ ghost use Rattle.notation.specs.Steps.{fields_of};
 use layout::Shape;
 use layout::places::SEND_LEAST;
 use layout::sizes::KINDS;
-pub use naming::{put_keyword, put_name};
+pub use naming::{keyword, name_of, put_keyword, put_name};
 
 // How the number of a field is written: in decimal, as one of its words, or as a parent.
-#[derive(Clone, Copy)]
+#[derive(Clone, Copy, PartialEq, Eq, Debug)]
 pub enum Form {
     Decimal,
     Choice,
@@ -23,6 +23,7 @@ pub enum Form {
 }
 
 // How many fields a line of a section has.
+#[tactic(auto, unfolding(crate::specs::Steps::fields_of))]
 pub fn fields_in(section: usize) -> usize
     ensures { result ≡ fields_of section }
 {
@@ -34,6 +35,7 @@ pub fn fields_in(section: usize) -> usize
 }
 
 // Field k of a line of a section, blank where it has none.
+#[tactic(auto, using(crate::proofs::ShapeLaws::shapes))]
 pub fn field_at(version: u64, section: usize, k: usize) -> Shape
     ensures { result ≡ get_or (line_fields version section) k blank }
 {

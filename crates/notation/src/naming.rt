@@ -1,87 +1,75 @@
-// What the fields of a table are called and what begins the line of a section, put at a place of a text.
-// These words stand here and nowhere else in code. Both routines answer for all input: what does not fit is left out.
-ghost use Rattle.std.specs.Prelude.{◌≤◌, [], ◌≡◌, length, take, get_or};
-ghost use Rattle.text.specs.Text.{Puts};
+// What the fields of a table are called and what begins the line of a section, by themselves and put in a text.
+// These words stand here and nowhere else in code. Each routine answers for all input: what does not fit is left out.
+ghost use Rattle.std.specs.Prelude.{[], ◌≡◌, get_or};
+ghost use Rattle.text.specs.Gains.{Gains};
 ghost use Rattle.notation.specs.Notation.{keywords};
 ghost use Rattle.notation.specs.Called.{called};
 
 use layout::Name;
-
-// The longest name has 22 bytes.
-const LONGEST: usize = 22;
-
-// Words by value: the bytes, with spaces behind them, and how many they are.
-#[derive(Clone, Copy)]
-struct Padded([u8; LONGEST], usize);
-
-fn put_padded(text: &mut [u8], at: usize, words: Padded) -> usize
-    requires { words.1 ≤ length words.0 }
-    ensures { Puts text.old at (take words.1 words.0) result text.new }
-{
-    let bytes = words.0;
-    let used = words.1;
-    text::put_bytes(text, at, &bytes[..used])
-}
-
-fn keyword(section: usize) -> Padded
-    ensures { (result.1 ≤ length result.0) × (take result.1 result.0 ≡ get_or keywords section []) }
-{
-    match section {
-        0 => Padded(*b"delays                ", 6),
-        1 => Padded(*b"system                ", 6),
-        2 => Padded(*b"vl                    ", 2),
-        3 => Padded(*b"stream                ", 6),
-        4 => Padded(*b"port                  ", 4),
-        5 => Padded(*b"hop                   ", 3),
-        6 => Padded(*b"version               ", 7),
-        _ => Padded(*b"                      ", 0),
-    }
-}
-
-fn name_of(name: Name) -> Padded
-    ensures { (result.1 ≤ length result.0) × (take result.1 result.0 ≡ called name) }
-{
-    match name {
-        Name::Version => Padded(*b"version               ", 7),
-        Name::EndSystems => Padded(*b"end systems           ", 11),
-        Name::Vls => Padded(*b"VLs                   ", 3),
-        Name::Streams => Padded(*b"streams               ", 7),
-        Name::Ports => Padded(*b"ports                 ", 5),
-        Name::Hops => Padded(*b"hops                  ", 4),
-        Name::SendLeast => Padded(*b"send delay least      ", 16),
-        Name::SendGreatest => Padded(*b"send delay greatest   ", 19),
-        Name::ReceiveLeast => Padded(*b"receive delay least   ", 19),
-        Name::ReceiveGreatest => Padded(*b"receive delay greatest", 22),
-        Name::Padding => Padded(*b"padding               ", 7),
-        Name::Speed => Padded(*b"speed                 ", 5),
-        Name::EndSystem => Padded(*b"end system            ", 10),
-        Name::Gap => Padded(*b"gap                   ", 3),
-        Name::SubLinks => Padded(*b"sub-links             ", 9),
-        Name::Lmax => Padded(*b"Lmax                  ", 4),
-        Name::Vl => Padded(*b"VL                    ", 2),
-        Name::SubLink => Padded(*b"sub-link              ", 8),
-        Name::Kind => Padded(*b"kind                  ", 4),
-        Name::Size => Padded(*b"M                     ", 1),
-        Name::LeastSize => Padded(*b"least M               ", 7),
-        Name::Period => Padded(*b"period                ", 6),
-        Name::Jitter => Padded(*b"jitter                ", 6),
-        Name::SwitchLeast => Padded(*b"switch delay least    ", 18),
-        Name::SwitchGreatest => Padded(*b"switch delay greatest ", 21),
-        Name::Port => Padded(*b"port                  ", 4),
-        Name::Parent => Padded(*b"parent                ", 6),
-    }
-}
+use text::Text;
 
 // The word that begins a line of a section: of section 0 that of the delays, of 6 the version; none of any other.
-pub fn put_keyword(text: &mut [u8], at: usize, section: usize) -> usize
-    ensures { Puts text.old at (get_or keywords section []) result text.new }
+#[tactic(auto, unfolding(crate::specs::Notation::keywords))]
+pub fn keyword(section: usize) -> &'static [u8]
+    ensures { result.now ≡ get_or keywords section [] }
 {
-    put_padded(text, at, keyword(section))
+    match section {
+        0 => b"delays",
+        1 => b"system",
+        2 => b"vl",
+        3 => b"stream",
+        4 => b"port",
+        5 => b"hop",
+        6 => b"version",
+        _ => b"",
+    }
 }
 
 // The name of a field.
-pub fn put_name(text: &mut [u8], at: usize, name: Name) -> usize
-    ensures { Puts text.old at (called name) result text.new }
+#[tactic(auto, unfolding(crate::specs::Called::called))]
+pub fn name_of(name: Name) -> &'static [u8]
+    ensures { result.now ≡ called name }
 {
-    put_padded(text, at, name_of(name))
+    match name {
+        Name::Version => b"version",
+        Name::EndSystems => b"end systems",
+        Name::Vls => b"VLs",
+        Name::Streams => b"streams",
+        Name::Ports => b"ports",
+        Name::Hops => b"hops",
+        Name::SendLeast => b"send delay least",
+        Name::SendGreatest => b"send delay greatest",
+        Name::ReceiveLeast => b"receive delay least",
+        Name::ReceiveGreatest => b"receive delay greatest",
+        Name::Padding => b"padding",
+        Name::Speed => b"speed",
+        Name::EndSystem => b"end system",
+        Name::Gap => b"gap",
+        Name::SubLinks => b"sub-links",
+        Name::Lmax => b"Lmax",
+        Name::Vl => b"VL",
+        Name::SubLink => b"sub-link",
+        Name::Kind => b"kind",
+        Name::Size => b"M",
+        Name::LeastSize => b"least M",
+        Name::Period => b"period",
+        Name::Jitter => b"jitter",
+        Name::SwitchLeast => b"switch delay least",
+        Name::SwitchGreatest => b"switch delay greatest",
+        Name::Port => b"port",
+        Name::Parent => b"parent",
+    }
+}
+
+// The same, put in a text.
+pub fn put_keyword(text: &mut Text<'_>, section: usize)
+    ensures { Gains text.old (get_or keywords section []) text.new }
+{
+    text.put_bytes(keyword(section));
+}
+
+pub fn put_name(text: &mut Text<'_>, name: Name)
+    ensures { Gains text.old (called name) text.new }
+{
+    text.put_bytes(name_of(name));
 }

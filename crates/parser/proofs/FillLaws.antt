@@ -7,9 +7,9 @@ use mathlib.Core.Logic.{◌⊎◌, inl, inr}
 use mathlib.Core.List.{List, [], ◌∷◌, ◌++◌, append_assoc}
 use native.Mathlib.Omega.{arith}
 use borrow.Author.Tests.{leb-true, leb-false}
-use lib.Dec.{leb, eqb}
+use lib.Dec.{leb}
 use lib.ListN.{length, get_or, take, drop, replicate, length-replicate, take-append-drop}
-use lib.Seq.{drop-drop, length-take-le, paste, length-paste, take-paste, drop-paste}
+use lib.Seq.{take_all, drop-drop, paste, length-paste, take-paste, drop-paste}
 use Rattle.base.specs.Pick.{pick}
 use Rattle.words.specs.Words.{words_of}
 use Rattle.words.specs.Places.{part, line_end}
@@ -19,39 +19,17 @@ use Rattle.notation.specs.Steps.{fields_of, lines_from}
 use Rattle.notation.specs.Fitted.{held, fitted}
 use Rattle.notation.proofs.FittedLaws.{held_none, fitted_none, held_full, fitted_full, held_more, fitted_more}
 use Rattle.notation.proofs.LinesLaws.{lines_next, section_next, record_or_none}
-use Rattle.parser.specs.declared.lines.Sort.{Sort}
-use Rattle.parser.specs.declared.lines.Sort.TheVariants.{Silent, Unknown, Good, Wrong}
 use Rattle.parser.specs.declared.lines.Line.{Line}
-use Rattle.parser.specs.Lines.{line_told, Tells, count_in, list_with, place_with}
+use Rattle.parser.specs.declared.lines.Line.TheVariants.{Silent, Unknown, Good, Wrong}
+use Rattle.parser.specs.Lines.{line_told, Tells, numbers_in, list_with, place_with}
 
 -- ---- the numbers of a line
-pub numbers_are : (text : List ℕ) (end section : ℕ) (r : Line) → numbers_of section (line_told text end r) ≡ take (count_in section r) r.numbers
-unfolding numbers_of line_told count_in
-numbers_are text end section r = go r.sort refl
-  where
-    chosen : (t : Bool) (ns : List ℕ) (n : ℕ) → pick t (take n ns) [] ≡ take (pick t n 0) ns
-    chosen true ns n = refl
-    chosen false ns n = refl
-
-    go : (s : Sort) → r.sort ≡ s → numbers_of section (line_told text end r) ≡ take (count_in section r) r.numbers
-    go Silent e = rw (e, line_told, count_in)
-    go Unknown e = rw (e, line_told, count_in)
-    go Good e = rw (e, line_told, count_in) (chosen (eqb r.section section) r.numbers r.count)
-    go Wrong e = rw (e, line_told, count_in)
-
-pub count_few : (section : ℕ) (r : Line) → r.count ≤ 11 → count_in section r ≤ 11
-unfolding count_in
-count_few section r h = go r.sort refl
-  where
-    few : (t : Bool) → pick t r.count 0 ≤ 11
-    few true = h
-    few false = omega arith
-
-    go : (s : Sort) → r.sort ≡ s → count_in section r ≤ 11
-    go Silent e = rw (e, count_in) (omega arith)
-    go Unknown e = rw (e, count_in) (omega arith)
-    go Good e = rw (e, count_in) (few (eqb r.section section))
-    go Wrong e = rw (e, count_in) (omega arith)
+pub numbers_are : (text : List ℕ) (end section : ℕ) (r : Line) → numbers_of section (line_told text end r) ≡ numbers_in section r
+unfolding numbers_of line_told numbers_in
+numbers_are text end section Silent = refl
+numbers_are text end section Unknown = refl
+numbers_are text end section (Good s ns) = refl
+numbers_are text end section (Wrong s k place) = refl
 
 -- ---- zeros
 pub drop_zeros : (k m : ℕ) → drop {A = ℕ} k (replicate m 0) ≡ replicate (m - k) 0
@@ -83,47 +61,49 @@ module _ (n room : ℕ) (all : List ℕ) where
       )
 
   -- a line puts nothing, or a record
-  pub filling_more : (list : List ℕ) (put : ℕ) (r rest ns : List ℕ) (count : ℕ) → Filling list put (r ++ rest)
-      → r ≡ take count ns → count ≤ length ns → (length r ≡ 0) ⊎ (length r ≡ n)
-      → Filling (list_with list put ns count) (place_with list put count) rest
+  pub filling_more : (list : List ℕ) (put : ℕ) (r rest : List ℕ) → Filling list put (r ++ rest) → (length r ≡ 0) ⊎ (length r ≡ n)
+      → Filling (list_with list put r) (place_with list put r) rest
   unfolding list_with place_with
-  filling_more list put r rest ns count f e c h = go (leb count (length list - put)) (leb-true _ _) (leb-false _ _)
+  filling_more list put r rest f h = go (leb (length r) (length list - put)) (leb-true _ _) (leb-false _ _)
     where
       m : ℕ
       m = room - put
 
-      size : length r ≡ count
-      size = ap length e ∙ length-take-le count ns c
+      count : ℕ
+      count = length r
+
+      whole : take count r ≡ r
+      whole = take_all count r (omega arith)
 
       go : (t : Bool) → (t ≡ true → count ≤ length list - put) → (t ≡ false → length list - put < count)
-          → Filling (pick t (paste list put ns count) list) (pick t (put + count) put) rest
+          → Filling (pick t (paste list put r count) list) (pick t (put + count) put) rest
       go true fits over =
           let k : count ≤ m = omega (arith, fits refl, f.long) in
           let p : put ≤ length list = omega (arith, f.few, f.long) in
           let q : put + count ≤ length list = omega (arith, f.few, f.long) in
           let z : m - count ≡ room - (put + count) = omega (arith, f.few) in
-          let s : room - (put + count) ≡ m - length r = omega (arith, size) in
+          let c : count ≤ length r = omega arith in
           record {
             few = omega (arith, f.few);
-            long = length-paste list put ns count q c ∙ f.long;
+            long = length-paste list put r count q c ∙ f.long;
             zeros =
-                drop-paste list put ns count p c ∙ sym (drop-drop count put list)
+                drop-paste list put r count p c ∙ sym (drop-drop count put list)
                 ∙ ap (drop count) f.zeros ∙ drop_zeros count m ∙ ap (λ (i : ℕ). replicate i 0) z;
             fills =
-                rw (take-paste list put ns count p c, ← e, s)
-                (append_assoc (take put list) r (fitted n (m - length r) rest)
-                ∙ ap (λ (l : List ℕ). take put list ++ l) (sym (fitted_more n m r rest h (omega (arith, size)))) ∙ f.fills);
-            counts = rw s (omega (arith, f.counts, held_more n m r rest h (omega (arith, size)), size));
+                rw (take-paste list put r count p c, whole, ← z)
+                (append_assoc (take put list) r (fitted n (m - count) rest)
+                ∙ ap (λ (l : List ℕ). take put list ++ l) (sym (fitted_more n m r rest h k)) ∙ f.fills);
+            counts = rw (← z) (omega (arith, f.counts, held_more n m r rest h k));
           }
       go false fits over = full h
         where
           o : m < count
           o = omega (arith, over refl, f.long)
 
-          full : (length r ≡ 0) ⊎ (length r ≡ n) → Filling list put rest
-          full (inl z) = absurd (omega (arith, size, o))
+          full : (count ≡ 0) ⊎ (count ≡ n) → Filling list put rest
+          full (inl z) = absurd (omega (arith, o))
           full (inr z) =
-              let x : m < n = omega (arith, size, o) in
+              let x : m < n = omega (arith, o) in
               record {
                 few = f.few;
                 long = f.long;
@@ -133,23 +113,23 @@ module _ (n room : ℕ) (all : List ℕ) where
               }
 
 -- a line of the text
-pub filling_line : (text : List ℕ) (version section room put at end count place : ℕ) (list new : List ℕ) (r : Line)
+pub filling_line : (text : List ℕ) (version section room put at end place : ℕ) (list new : List ℕ) (r : Line)
     → at ≤ length text → end ≡ line_end text at → Tells text at end (line_said version (words_of (part text at end))) r
-    → count ≡ count_in section r → place ≡ place_with list put count → new ≡ list_with list put r.numbers count
+    → place ≡ place_with list put (numbers_in section r) → new ≡ list_with list put (numbers_in section r)
     → Filling (fields_of section) room (section_in version section (text_lines text)) list put (section_in version section (lines_from text at))
     → Filling (fields_of section) room (section_in version section (text_lines text)) new place (section_in version section (lines_from text (end + 1)))
-filling_line text version section room put at end count place list new r h e t c p q f =
+filling_line text version section room put at end place list new r h e t p q f =
     let words = words_of (part text at end) in
+    let n = fields_of section in
+    let all = section_in version section (text_lines text) in
     let rest = section_in version section (lines_from text (end + 1)) in
+    let said : numbers_of section (line_said version words) ≡ numbers_in section r = ap (numbers_of section) (sym t.said) ∙ numbers_are text end section r in
     let first : lines_from text at ≡ words ∷ lines_from text (end + 1) = rw e (lines_next text at h) in
-    let s = ap (section_in version section) first ∙ section_next version section words (lines_from text (end + 1)) in
-    let said = ap (numbers_of section) (sym t.said) ∙ numbers_are text end section r ∙ ap (λ (n : ℕ). take n r.numbers) (sym c) in
-    let few : count ≤ length r.numbers = omega (arith, c, t.long, count_few section r t.few) in
+    let s =
+    ap (section_in version section) first ∙ section_next version section words (lines_from text (end + 1)) ∙ ap (λ (l : List ℕ). l ++ rest) said in
     rw (p, q)
-    (filling_more (fields_of section) room (section_in version section (text_lines text)) list put (numbers_of section (line_said version words)) rest
-    r.numbers count
-    (subst (λ (l : List ℕ). Filling (fields_of section) room (section_in version section (text_lines text)) list put l) s f)
-    said few (record_or_none version section words))
+    (filling_more n room all list put (numbers_in section r) rest (subst (λ (l : List ℕ). Filling n room all list put l) s f)
+    (rw (← said) (record_or_none version section words)))
 
 -- ---- the version: the first number of its lines, in a list of one
 pub first_none : (ns : List ℕ) (n : ℕ) → n ≡ length (held (fields_of version_line) 1 ns) → n ≡ 0 → 1 ≡ get_or ns 0 1

@@ -1,42 +1,49 @@
--- What the answer says of a line, by its sort.
+-- A first word that is a keyword tells one of the seven sections; and what is told of the words behind it is told of the line.
 -- Assumes nothing.
-use Prim.Native.Nat.{ℕ}
-use mathlib.Core.Path.{◌≡◌, sym, ◌∙◌}
-use mathlib.Core.List.{List}
+use Prim.Native.Nat.{ℕ, suc, ◌≤◌, ◌<◌}
+use mathlib.Core.Path.{◌≡◌, refl, sym, ◌∙◌}
+use mathlib.Core.Bool.{Bool, true, false}
+use mathlib.Core.List.{List, [], ◌∷◌}
+use Rattle.std.specs.Prelude.{Option, None, Some}
+use Rattle.std.proofs.lemmas.Option.{same_Some, none-some}
 use native.Mathlib.Omega.{arith}
-use lib.ListN.{length, take}
-use Rattle.words.specs.Words.{words_of}
-use Rattle.words.specs.Places.{part}
+use lib.ListN.{length}
+use Rattle.base.specs.Pick.{pick}
+use Rattle.words.specs.Words.{same}
+use Rattle.notation.specs.Notation.{Word, keywords, version_line, word_in}
 use Rattle.notation.specs.Meant as meant
-use Rattle.notation.specs.Meant.{silent, unknown, of, numbers, wrong}
 use Rattle.fields.specs.Fields.{Behind}
-use Rattle.fields.proofs.FieldLaws.{behind_here, behind_more}
-use Rattle.parser.specs.declared.lines.Sort.TheVariants.{Silent, Unknown, Good, Wrong}
+use Rattle.fields.proofs.FieldLaws.{behind_more}
 use Rattle.parser.specs.declared.lines.Line.{Line}
-use Rattle.parser.specs.Lines.{line_told, Tells}
+use Rattle.parser.specs.declared.lines.Line.TheVariants.{Silent, Unknown, Good, Wrong}
+use Rattle.parser.specs.Lines.{Stands, Tells}
 
-module _ (text : List ℕ) (at end : ℕ) where
-  -- one that says no field
-  pub tells_bare : (r : Line) (says : meant.Line) → line_told text end r ≡ says → r.count ≡ 0 → r.place ≡ at → length r.numbers ≡ 11
-      → Tells text at end says r
-  tells_bare r says e d p l = record { said = e; behind = rw p (behind_here text at end); few = omega arith; long = l }
+place_few : (vs : List Word) (w : Word) (i : ℕ) → word_in vs w ≡ Some i → i < length vs
+unfolding word_in
+place_few [] w i e = absurd (none-some i e)
+place_few (v ∷ vs) w i e = go (same w v) (word_in vs w) (place_few vs w) e
+  where
+    go : (t : Bool) (o : Option ℕ) → ((j : ℕ) → o ≡ Some j → j < length vs)
+        → pick t (Some 0) (elim o [ None ↦ None | Some k ↦ Some (suc k) ]) ≡ Some i → i < suc (length vs)
+    go true o ih e = omega (arith, same_Some 0 i e)
+    go false None ih e = absurd (none-some i e)
+    go false (Some k) ih e = omega (arith, same_Some (suc k) i e, ih k refl)
 
-  pub told_silent : (r : Line) → r.sort ≡ Silent → line_told text end r ≡ silent
-  unfolding line_told
-  told_silent r e = rw (e, line_told)
+pub keyword_few : (w : Word) (s : ℕ) → word_in keywords w ≡ Some s → s ≤ version_line
+unfolding keywords
+keyword_few w s e = omega (arith, place_few keywords w s e)
 
-  pub told_unknown : (r : Line) → r.sort ≡ Unknown → line_told text end r ≡ unknown
-  unfolding line_told
-  told_unknown r e = rw (e, line_told)
+-- the words of a line behind its first
+pub tells_later : (text : List ℕ) (at end : ℕ) (r : Line) (says said : meant.Line) (p : ℕ) → says ≡ said → Behind text at end p → Tells text p end said r
+    → Tells text at end says r
+unfolding Stands
+tells_later text at end Silent says said p e b t = record { said = t.said ∙ sym e; stands = tt }
+tells_later text at end Unknown says said p e b t = record { said = t.said ∙ sym e; stands = tt }
+tells_later text at end (Good s ns) says said p e b t = record { said = t.said ∙ sym e; stands = t.stands }
+tells_later text at end (Wrong s k place) says said p e b t =
+    record { said = t.said ∙ sym e; stands = behind_more text at end p place b t.stands }
 
-  pub told_good : (r : Line) → r.sort ≡ Good → line_told text end r ≡ of r.section (numbers (take r.count r.numbers))
-  unfolding line_told
-  told_good r e = rw (e, line_told)
-
-  pub told_wrong : (r : Line) → r.sort ≡ Wrong → line_told text end r ≡ of r.section (wrong r.count (words_of (part text r.place end)))
-  unfolding line_told
-  told_wrong r e = rw (e, line_told)
-
-  pub tells_later : (r : Line) (says said : meant.Line) (p : ℕ) → says ≡ said → Behind text at end p → Tells text p end said r → Tells text at end says r
-  tells_later r says said p e b t =
-      record { said = t.said ∙ sym e; behind = behind_more text at end p r.place b t.behind; few = t.few; long = t.long }
+-- a line that says its fields is one of a section
+pub good_few : (text : List ℕ) (at end : ℕ) (r : Line) (s : ℕ) (ns : List ℕ) → Stands text at end r → r ≡ Good s ns → s < 7
+unfolding Stands
+good_few text at end r s ns t e = let few = (rw e at t).0 in omega arith

@@ -3,8 +3,8 @@
 -- Assumes nothing.
 use Prim.Native.Nat.{ℕ, suc, ◌+◌, ◌*◌, ◌≤◌, ◌<◌}
 use mathlib.Core.Path.{◌≡◌, refl, ap, ◌∙◌}
-use mathlib.Core.Bool.{false}
 use mathlib.Core.List.{List, [], ◌∷◌}
+use Rattle.std.specs.Prelude.{None}
 use native.Mathlib.Omega.{arith}
 use native.Mathlib.Decide.{dec_lt}
 use native.Mathlib.Nat.{zero-mul, mul-le-mul_right}
@@ -15,8 +15,7 @@ use Rattle.notation.specs.Meant.{Line, numbers, wrong, silent, unknown, of, line
 use Rattle.notation.specs.Steps.{fields_of}
 use Rattle.notation.proofs.ShapeLaws.{fields_some}
 use Rattle.notation.proofs.LinesLaws.{WholeLine, whole_line, section_none, section_next}
-use Rattle.parser.specs.declared.mistakes.Fault.TheVariants.{Nothing}
-use Rattle.parser.specs.Mistakes.{line_fault, counted, is_fault, of_no_line, mistake_from}
+use Rattle.parser.specs.Mistakes.{line_fault, counted, mistake_from}
 use Rattle.parser.proofs.TallyLaws.{Counted, line_counts}
 
 -- a line that says nothing, or all its numbers
@@ -53,7 +52,7 @@ module _ (version : ℕ) (most : List ℕ) (m : length most ≡ 7) where
   -- ---- a line
   module _ (counts : List ℕ) (coming : ℕ → ℕ) (ws : List Word) where
     no_fault : (x : Line) → Right x → WholeLine x → Enough counts (λ s. length (numbers_of s x) + coming s)
-        → (line_fault most counts ws x).fault ≡ Nothing
+        → line_fault most counts ws x ≡ None
     unfolding line_fault numbers_of Right WholeLine
     no_fault silent a w r = refl
     no_fault unknown a w r = absurd a
@@ -67,7 +66,6 @@ module _ (version : ℕ) (most : List ℕ) (m : length most ≡ 7) where
 
     enough_next : (x : Line) → Right x → WholeLine x → Enough counts (λ s. length (numbers_of s x) + coming s)
         → Enough (counted most counts x) coming
-    unfolding is_fault
     enough_next x a w r = record {
       long = (made 0 (omega arith)).long;
       fits = λ s h. omega (arith, (made s h).size, r.fits s h);
@@ -75,12 +73,12 @@ module _ (version : ℕ) (most : List ℕ) (m : length most ≡ 7) where
     }
       where
         made : (s : ℕ) → s ≤ version_line → Counted most m s counts (counted most counts x) (numbers_of s x)
-        made s h = line_counts most m s counts ws x r.long (few counts _ r s h) w (ap is_fault (no_fault x a w r))
+        made s h = line_counts most m s counts ws x r.long (few counts _ r s h) w (no_fault x a w r)
 
   -- ---- the lines
   pub right_lines : (text : List ℕ) (ls : List (List Word)) (counts : List ℕ) (i : ℕ) → AllRight version ls
-      → Enough counts (λ s. length (section_in version s ls)) → (mistake_from text version most counts i ls).fault ≡ Nothing
-  unfolding mistake_from of_no_line is_fault AllRight
+      → Enough counts (λ s. length (section_in version s ls)) → mistake_from text version most counts i ls ≡ None
+  unfolding mistake_from AllRight
   right_lines text [] counts i a r = rw (ne_eqb (get_or counts 0 0) 0 some_are)
     where
       some_are : get_or counts 0 0 ≡ 0 → ⊥
@@ -89,7 +87,7 @@ module _ (version : ℕ) (most : List ℕ) (m : length most ≡ 7) where
           let n : length (section_in version 0 []) ≡ 0 = ap length (section_none version 0) in
           omega (arith, r.delays, z, n)
   right_lines text (ws ∷ ls) counts i (a, b) r =
-      rw none_here
+      rw (none_here, mistake_from)
       (right_lines text ls (counted most counts (line_said version ws)) (suc i) b
       (enough_next counts (λ s. length (section_in version s ls)) ws (line_said version ws) a (whole_line version ws) now))
     where
@@ -103,5 +101,5 @@ module _ (version : ℕ) (most : List ℕ) (m : length most ≡ 7) where
         delays = omega (arith, r.delays, more 0);
       }
 
-      none_here : is_fault (line_fault most counts ws (line_said version ws)).fault ≡ false
-      none_here = ap is_fault (no_fault counts (λ s. length (section_in version s ls)) ws (line_said version ws) a (whole_line version ws) now)
+      none_here : line_fault most counts ws (line_said version ws) ≡ None
+      none_here = no_fault counts (λ s. length (section_in version s ls)) ws (line_said version ws) a (whole_line version ws) now

@@ -3,8 +3,10 @@
 -- Assumes nothing.
 use Prim.Native.Nat.{ℕ, suc, ◌+◌, ◌*◌, ◌≤◌, ◌<◌}
 use mathlib.Core.Path.{◌≡◌, refl, sym, ap, ◌∙◌}
-use mathlib.Core.Bool.{Bool, true, false, false≢true}
+use mathlib.Core.Bool.{Bool, true, false}
 use mathlib.Core.List.{List, [], ◌∷◌}
+use Rattle.std.specs.Prelude.{Option, None, Some}
+use Rattle.std.proofs.lemmas.Option.{none-some}
 use native.Mathlib.Omega.{arith}
 use native.Mathlib.Decide.{dec_lt}
 use native.Mathlib.Nat.{zero-mul, mul-le-mul_right}
@@ -19,9 +21,9 @@ use Rattle.notation.specs.Meant as meant
 use Rattle.notation.specs.Meant.{numbers, wrong, silent, unknown, of, line_said, text_lines, numbers_of, section_in}
 use Rattle.notation.specs.Steps.{fields_of}
 use Rattle.notation.proofs.LinesLaws.{WholeLine, whole_line, section_none, section_next}
-use Rattle.parser.specs.declared.mistakes.Fault.TheVariants.{Nothing, NotSaid, Over, TooMany, NoDelays}
+use Rattle.parser.specs.declared.mistakes.Mistake.TheVariants.{NoDelays}
 use Rattle.parser.specs.declared.mistakes.Mistake.{Mistake}
-use Rattle.parser.specs.Mistakes.{line_fault, counted, is_fault, line_start, made_at, mistake_at, of_no_line, mistake_from, mistake_in, SectionsFit, DelaysSaid}
+use Rattle.parser.specs.Mistakes.{Found, line_fault, counted, line_start, mistake_at, mistake_from, mistake_in, SectionsFit, DelaysSaid}
 
 module _ (most : List ℕ) (m : length most ≡ 7) (s : ℕ) where
   -- the counts of a line that has no fault
@@ -38,16 +40,12 @@ module _ (most : List ℕ) (m : length most ≡ 7) (s : ℕ) where
       go (no j) = absurd (omega (arith, get_or-eq_default most 0 {n = k} (omega arith)))
 
   pub line_counts : (counts : List ℕ) (ws : List Word) (x : meant.Line) → length counts ≡ 7 → get_or counts s 0 ≤ get_or most s 0 → WholeLine x
-      → is_fault (line_fault most counts ws x).fault ≡ false → Counted counts (counted most counts x) (numbers_of s x)
-  unfolding line_fault counted is_fault numbers_of WholeLine
+      → line_fault most counts ws x ≡ None → Counted counts (counted most counts x) (numbers_of s x)
+  unfolding line_fault counted numbers_of WholeLine
   line_counts counts ws silent c h w e = record { long = c; few = h; size = omega arith }
-  line_counts counts ws unknown c h w e = absurd (false≢true (sym e))
-  line_counts counts ws (of k (wrong j us)) c h w e = absurd (go (ltb j (fields_of k)) e)
-    where
-      go : (t : Bool) → is_fault (pick t NotSaid Over) ≡ false → ⊥
-      go true e = false≢true (sym e)
-      go false e = false≢true (sym e)
-  line_counts counts ws (of k (numbers ns)) c h w e = go (ltb (get_or counts k 0) (get_or most k 0)) (ltb-true _ _) e
+  line_counts counts ws unknown c h w e = absurd (none-some _ (sym e))
+  line_counts counts ws (of k (wrong j us)) c h w e = absurd (none-some _ (sym e))
+  line_counts counts ws (of k (numbers ns)) c h w e = go _ (ltb (get_or counts k 0) (get_or most k 0)) (ltb-true _ _) e
     where
       one : (b : Bool) → (b ≡ true → k ≡ s) → (b ≡ false → k ≡ s → ⊥) → get_or counts k 0 < get_or most k 0
           → Counted counts (set counts k (suc (get_or counts k 0))) (pick b ns [])
@@ -59,10 +57,10 @@ module _ (most : List ℕ) (m : length most ≡ 7) (s : ℕ) where
           let v = get_or-set_other counts k s (suc (get_or counts k 0)) 0 (λ q. g refl (sym q)) in
           record { long = length-set counts k _ ∙ c; few = rw v h; size = rw v (omega arith) }
 
-      go : (t : Bool) → (t ≡ true → get_or counts k 0 < get_or most k 0) → is_fault (pick t Nothing TooMany) ≡ false
+      go : (x : Found) (t : Bool) → (t ≡ true → get_or counts k 0 < get_or most k 0) → pick t None (Some x) ≡ None
           → Counted counts (pick t (set counts k (suc (get_or counts k 0))) counts) (pick (eqb k s) ns [])
-      go true f e = one (eqb k s) (eqb-true k s) (eqb-false k s) (f refl)
-      go false f e = absurd (false≢true (sym e))
+      go x true f e = one (eqb k s) (eqb-true k s) (eqb-false k s) (f refl)
+      go x false f e = absurd (none-some _ (sym e))
 
   -- how many lines the section has in the end
   pub record Tallied (counts : List ℕ) (len : ℕ) : Type 0 where
@@ -72,8 +70,8 @@ module _ (most : List ℕ) (m : length most ≡ 7) (s : ℕ) where
     pub some_delays : s ≡ 0 → 0 < final
 
   pub tallied : (text : List ℕ) (version : ℕ) (ls : List (List Word)) (counts : List ℕ) (i : ℕ) → length counts ≡ 7 → get_or counts s 0 ≤ get_or most s 0
-      → is_fault (mistake_from text version most counts i ls).fault ≡ false → Tallied counts (length (section_in version s ls))
-  unfolding mistake_from of_no_line is_fault mistake_at made_at
+      → mistake_from text version most counts i ls ≡ None → Tallied counts (length (section_in version s ls))
+  unfolding mistake_from
   tallied text version [] counts i c h e =
       record {
         final = get_or counts s 0;
@@ -82,21 +80,21 @@ module _ (most : List ℕ) (m : length most ≡ 7) (s : ℕ) where
         some_delays = λ z. rw z (go (eqb (get_or counts 0 0) 0) (eqb-false _ _) e);
       }
     where
-      go : (t : Bool) → (t ≡ false → get_or counts 0 0 ≡ 0 → ⊥) → is_fault (pick t NoDelays Nothing) ≡ false → 0 < get_or counts 0 0
-      go true f e = absurd (false≢true (sym e))
+      go : (t : Bool) → (t ≡ false → get_or counts 0 0 ≡ 0 → ⊥) → pick t (Some NoDelays) None ≡ None → 0 < get_or counts 0 0
+      go true f e = absurd (none-some _ (sym e))
       go false f e = let g = f refl in omega arith
   tallied text version (ws ∷ ls) counts i c h e =
-      go (is_fault (line_fault most counts ws (line_said version ws)).fault) refl e
-      (λ k n. tallied text version ls (counted most counts (line_said version ws)) (suc i) k.long k.few n)
+      go (line_fault most counts ws x) refl e
+      (λ k n. tallied text version ls (counted most counts x) (suc i) k.long k.few n)
     where
       x : meant.Line
       x = line_said version ws
 
-      rest : Mistake
+      rest : Option Mistake
       rest = mistake_from text version most (counted most counts x) (suc i) ls
 
-      here : Mistake
-      here = mistake_at text (line_start text i) (line_end text (line_start text i)) (suc i) (line_fault most counts ws x)
+      here : Found → Mistake
+      here = mistake_at text (line_start text i) (line_end text (line_start text i)) (suc i)
 
       add : Counted counts (counted most counts x) (numbers_of s x)
           → Tallied (counted most counts x) (length (section_in version s ls)) → Tallied counts (length (section_in version s (ws ∷ ls)))
@@ -108,15 +106,11 @@ module _ (most : List ℕ) (m : length most ≡ 7) (s : ℕ) where
             some_delays = t.some_delays;
           }
 
-      go : (t : Bool) → is_fault (line_fault most counts ws x).fault ≡ t → is_fault (pick t here rest).fault ≡ false
-          → (Counted counts (counted most counts x) (numbers_of s x) → is_fault rest.fault ≡ false
-          → Tallied (counted most counts x) (length (section_in version s ls)))
+      go : (o : Option Found) → line_fault most counts ws x ≡ o → ◌≡◌ {A = Option Mistake} (elim o [ None ↦ rest | Some f ↦ Some (here f) ]) None
+          → (Counted counts (counted most counts x) (numbers_of s x) → rest ≡ None → Tallied (counted most counts x) (length (section_in version s ls)))
           → Tallied counts (length (section_in version s (ws ∷ ls)))
-      go true d n ih = absurd (false≢true (sym n ∙ same_fault d))
-        where
-          same_fault : is_fault (line_fault most counts ws x).fault ≡ true → is_fault here.fault ≡ true
-          same_fault d = d
-      go false d n ih = let k = line_counts counts ws x c h (whole_line version ws) d in add k (ih k n)
+      go (Some f) d n ih = absurd (none-some _ (sym n))
+      go None d n ih = let k = line_counts counts ws x c h (whole_line version ws) d in add k (ih k n)
 
 no_counts : (s : ℕ) → get_or {A = ℕ} (replicate 7 0) s 0 ≡ 0
 no_counts s = go (dec_lt s 7)

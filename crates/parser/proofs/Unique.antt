@@ -20,9 +20,9 @@ version κs a x y ws vs p q = (p ∙ sym q, refl)
 pub mistake : Settles 1 mistake-kinds.ps mistake-kinds.r mistake-reads.Post
 mistake κs a x y ws vs p q = (p ∙ sym q, refl)
 
-pub read : Settles 7 read-kinds.ps read-kinds.r read-reads.Post
+pub read : Settles 2 read-kinds.ps read-kinds.r read-reads.Post
 read κs a x y ws vs p q =
     let left = p.held ∙ sym q.held in (
-      λ i. record { mistake = (p.mistake ∙ sym q.mistake) i; lengths = (p.lengths ∙ sym q.lengths) i },
-      λ i. (tt, ((left i).header, ((left i).systems, ((left i).vls, ((left i).streams, ((left i).ports, ((left i).hops, tt))))))),
+      p.answer ∙ sym q.answer,
+      λ i. (tt, (((left i).header, ((left i).systems, ((left i).vls, ((left i).streams, ((left i).ports, ((left i).hops, tt)))))), tt)),
     )

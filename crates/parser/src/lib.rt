@@ -6,46 +6,26 @@ mod filling;
 mod lines;
 mod mistakes;
 
-ghost use Rattle.std.specs.Prelude.{◌≡◌, leb, length, get_or, replicate};
-ghost use Rattle.base.specs.Pick.{pick};
-ghost use Rattle.layout.specs.Layout.{header_names};
-ghost use Rattle.table.specs.Lists.{lists};
+ghost use Rattle.std.specs.Prelude.{◌≡◌, ◌∷◌, length, get_or, replicate};
+ghost use Rattle.table.specs.Lent.{lists_before, lists_after};
 ghost use Rattle.notation.specs.Meant.{text_lines, section_in};
 ghost use Rattle.notation.specs.Steps.{fields_of};
-ghost use Rattle.notation.specs.Fitted.{held, fitted};
-ghost use Rattle.parser.specs.Lines.{list_with, place_with, head_row};
+ghost use Rattle.notation.specs.Fitted.{fitted};
+ghost use Rattle.parser.specs.Lines.{list_with, place_with};
 ghost use Rattle.parser.specs.Tables.{most_for, ReadsTo};
 
 use crate::filling::put_numbers;
-use crate::mistakes::is_fault;
 pub use filling::{fill, version_of};
 use layout::sizes;
 pub use mistakes::{Fault, Mistake, mistake_of};
+use table::ListsMut;
 
-// A text that was read: its first mistake, and how many numbers each list has, none where there is a mistake.
-#[derive(Clone, Copy)]
-pub struct Parsed {
-    pub mistake: Mistake,
-    pub lengths: [usize; 6],
-}
-
-// One line of delays, where the version and they have room.
-fn delay_lines(room: usize) -> usize
-    ensures { result ≡ pick (leb (length header_names) room) 1 0 }
-{
-    if sizes::HEADER_LIST <= room {
-        return 1;
-    }
-    0
-}
-
-// How many lines each section may have, by the room of its list.
+// How many lines each section may have, by the room of its list: one of delays, where the version and they have room.
 fn most_in(rooms: [usize; 6]) -> [usize; 7]
     ensures { result ≡ most_for (λ s. get_or rooms s 0) }
 {
-    let delays = delay_lines(rooms[0]);
     [
-        delays,
+        usize::from(sizes::HEADER_LIST <= rooms[0]),
         rooms[1] / sizes::SYSTEM,
         rooms[2] / sizes::VL,
         rooms[3] / sizes::STREAM,
@@ -57,91 +37,45 @@ fn most_in(rooms: [usize; 6]) -> [usize; 7]
 
 // The version and the delays.
 fn put_header(text: &[u8], version: u64, list: &mut [u64]) -> usize
-    ensures { (result ≡ place_with (replicate (length list.old) 0) 0 5) × (list.new ≡ list_with (replicate (length list.old) 0) 0 (head_row version (fitted (fields_of 0) 4 (section_in version 0 (text_lines text.now)))) 5) }
+    ensures behind { result ≡ place_with (replicate (length list.old) 0) 0
+        (version ∷ fitted (fields_of 0) 4 (section_in version 0 (text_lines text.now))) }
+    ensures put { list.new ≡ list_with (replicate (length list.old) 0) 0
+        (version ∷ fitted (fields_of 0) 4 (section_in version 0 (text_lines text.now))) }
 {
-    let mut delays = [0u64; 4];
-    fill(text, version, 0, &mut delays);
-    let row = [
-        version, delays[0], delays[1], delays[2], delays[3], 0, 0, 0, 0, 0, 0,
-    ];
-    unpacker::clear(list);
-    put_numbers(list, 0, row, 5)
+    let mut row = [version; sizes::HEADER_LIST];
+    fill(text, version, 0, &mut row[1..]);
+    list.fill(0);
+    put_numbers(list, 0, &row)
 }
 
-fn header_or_zeros(good: bool, text: &[u8], version: u64, list: &mut [u64]) -> usize
-    ensures { (result ≡ pick good (place_with (replicate (length list.old) 0) 0 5) 0) × (list.new ≡ pick good (list_with (replicate (length list.old) 0) 0 (head_row version (fitted (fields_of 0) 4 (section_in version 0 (text_lines text.now)))) 5) (replicate (length list.old) 0)) }
+// Reads a text to the lists of its sections, and answers how many numbers each has: on a mistake every lent place is zero.
+pub fn read(text: &[u8], lists: ListsMut<'_>) -> Result<[usize; 6], Mistake>
+    ensures { ReadsTo text.now (lists_before lists.entry) result (lists_after lists.exit) }
 {
-    if good {
-        return put_header(text, version, list);
-    }
-    unpacker::clear(list);
-    0
-}
-
-fn section_or_zeros(
-    good: bool,
-    text: &[u8],
-    version: u64,
-    section: usize,
-    list: &mut [u64],
-) -> usize
-    ensures { (result ≡ pick good (length (held (fields_of section) (length list.old) (section_in version section (text_lines text.now)))) 0) × (list.new ≡ pick good (fitted (fields_of section) (length list.old) (section_in version section (text_lines text.now))) (replicate (length list.old) 0)) }
-{
-    if good {
-        return fill(text, version, section, list);
-    }
-    unpacker::clear(list);
-    0
-}
-
-// Reads a text to the lists of its sections: on a mistake every lent place is zero.
-pub fn read(
-    text: &[u8],
-    header: &mut [u64],
-    systems: &mut [u64],
-    vls: &mut [u64],
-    streams: &mut [u64],
-    ports: &mut [u64],
-    hops: &mut [u64],
-) -> Parsed
-    ensures { ReadsTo
-        text.now
-        (lists
-        header.old
-        systems.old
-        vls.old
-        streams.old
-        ports.old
-        hops.old)
-        result
-        (lists
-        header.new
-        systems.new
-        vls.new
-        streams.new
-        ports.new
-        hops.new) }
-{
-    let version = version_of(text);
     let rooms = [
-        header.len(),
-        systems.len(),
-        vls.len(),
-        streams.len(),
-        ports.len(),
-        hops.len(),
+        lists.header.len(),
+        lists.systems.len(),
+        lists.vls.len(),
+        lists.streams.len(),
+        lists.ports.len(),
+        lists.hops.len(),
     ];
-    let mistake = mistake_of(text, version, most_in(rooms));
-    let fault = mistake.fault;
-    let good = !is_fault(fault);
-    let a = header_or_zeros(good, text, version, header);
-    let b = section_or_zeros(good, text, version, 1, systems);
-    let c = section_or_zeros(good, text, version, 2, vls);
-    let d = section_or_zeros(good, text, version, 3, streams);
-    let e = section_or_zeros(good, text, version, 4, ports);
-    let f = section_or_zeros(good, text, version, 5, hops);
-    Parsed {
-        mistake: mistake,
-        lengths: [a, b, c, d, e, f],
+    let version = version_of(text);
+    if let Some(mistake) = mistake_of(text, version, most_in(rooms)) {
+        lists.header.fill(0);
+        lists.systems.fill(0);
+        lists.vls.fill(0);
+        lists.streams.fill(0);
+        lists.ports.fill(0);
+        lists.hops.fill(0);
+        return Err(mistake);
     }
+    Ok([
+        put_header(text, version, lists.header),
+        fill(text, version, 1, lists.systems),
+        fill(text, version, 2, lists.vls),
+        fill(text, version, 3, lists.streams),
+        fill(text, version, 4, lists.ports),
+        fill(text, version, 5, lists.hops),
+    ])
 }

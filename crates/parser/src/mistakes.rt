@@ -1,216 +1,137 @@
 // The first mistake of a text, by its line and the place of the word.
 // One pass over the lines: a line is looked at by itself, and with the lines of its section before it counted.
-ghost use Rattle.std.specs.Prelude.{◌≡◌, suc, ◌<◌, ltb, get_or, set};
+ghost use Rattle.std.specs.Prelude.{◌≡◌, ltb, option_map};
 ghost use Rattle.base.specs.Pick.{pick};
 ghost use Rattle.words.specs.Words.{words_of};
 ghost use Rattle.words.specs.Places.{part, word_at};
 ghost use Rattle.notation.specs.Steps.{fields_of};
-ghost use Rattle.fields.specs.Fields.{Behind};
-ghost use Rattle.parser.specs.Lines.{line_told};
-ghost use Rattle.parser.specs.declared.mistakes.Fault.TheVariants.{Nothing, NotSaid, Over, TooMany};
-ghost use Rattle.parser.specs.Mistakes.{made_at, line_fault, is_fault, mistake_at, counted_by, of_no_line, mistake_in};
+ghost use Rattle.parser.specs.Lines.{Stands, line_told};
+ghost use Rattle.parser.specs.declared.mistakes.Fault.TheVariants.{NotSaid, Over};
+ghost use Rattle.parser.specs.declared.mistakes.Mistake.TheVariants.{InLine};
+ghost use Rattle.parser.specs.Mistakes.{line_fault, mistake_at, counted_by, mistake_in};
 
-use crate::lines::{Line, Sort, line_of};
+use crate::lines::{Line, line_of};
+use words::Span;
 
-// What is wrong with a text: a first word that is no keyword, a field that is not said, words behind the last field, a line more than its
-// section may have, and no line of delays.
-#[derive(Clone, Copy)]
+// What is wrong with a line.
+#[derive(Clone, Copy, PartialEq, Eq, Debug)]
 pub enum Fault {
-    Nothing,
+    // a first word that is no keyword
     Unknown,
+    // a field that is not said
     NotSaid,
+    // words behind the last field
     Over,
+    // a line more than its section may have
     TooMany,
+}
+
+// The first mistake of a text.
+#[derive(Clone, Copy, PartialEq, Eq, Debug)]
+pub enum Mistake {
+    // no line says the delays
     NoDelays,
+    // a line, by its number from 1: its section and field, and the place of the word, empty where the line ends there
+    InLine {
+        fault: Fault,
+        line: usize,
+        section: usize,
+        field: usize,
+        word: Span,
+    },
 }
 
-// The first mistake of a text: its line from 1, the section and field, and the place of the word, which is empty where the line ends there.
+// Where a line stands: its number from 1, and from which place to before which.
 #[derive(Clone, Copy)]
-pub struct Mistake {
-    pub fault: Fault,
-    pub line: usize,
-    pub section: usize,
-    pub field: usize,
-    pub from: usize,
-    pub to: usize,
+struct Stretch {
+    number: usize,
+    at: usize,
+    end: usize,
 }
 
-pub(crate) fn is_fault(fault: Fault) -> bool
-    ensures { result ≡ is_fault fault }
-{
-    match fault {
-        Fault::Nothing => false,
-        Fault::Unknown => true,
-        Fault::NotSaid => true,
-        Fault::Over => true,
-        Fault::TooMany => true,
-        Fault::NoDelays => true,
-    }
+// How many lines each section has so far, and how many it may have.
+#[derive(Drop)]
+struct Tally {
+    counts: [usize; 7],
+    most: [usize; 7],
 }
 
 fn field_fault(section: usize, field: usize) -> Fault
     ensures { result ≡ pick (ltb field (fields_of section)) NotSaid Over }
 {
     if field < notation::fields_in(section) {
-        return Fault::NotSaid;
-    }
-    Fault::Over
-}
-
-// Whether a section may have a line more.
-fn has_room(counts: [usize; 7], most: [usize; 7], section: usize) -> bool
-    ensures { result ≡ ltb (get_or counts section 0) (get_or most section 0) }
-{
-    if 7 <= section {
-        return false;
-    }
-    counts[section] < most[section]
-}
-
-fn room_fault(counts: [usize; 7], most: [usize; 7], section: usize) -> Fault
-    ensures { result ≡ pick (ltb (get_or counts section 0) (get_or most section 0)) Nothing TooMany }
-{
-    if has_room(counts, most, section) {
-        return Fault::Nothing;
-    }
-    Fault::TooMany
-}
-
-fn made(
-    text: &[u8],
-    at: usize,
-    end: usize,
-    number: usize,
-    fault: Fault,
-    section: usize,
-    field: usize,
-) -> Mistake
-    ensures { result ≡ made_at (word_at text.now at end) number fault section field }
-{
-    let word = words::word_at(text, at, end);
-    let from = word.from;
-    let to = word.to;
-    Mistake {
-        fault: fault,
-        line: number,
-        section: section,
-        field: field,
-        from: from,
-        to: to,
+        Fault::NotSaid
+    } else {
+        Fault::Over
     }
 }
 
-// What is wrong with a line.
-fn mistake_at(
-    text: &[u8],
-    at: usize,
-    end: usize,
-    number: usize,
-    line: Line,
-    counts: [usize; 7],
-    most: [usize; 7],
-) -> Mistake
-    requires { Behind text.now at end line.place }
-    ensures { result ≡ mistake_at text.now at end number (line_fault most counts (words_of (part text.now at end)) (line_told text.now end line)) }
+// A mistake that is said of the next word from the stretch's place on.
+fn made(text: &[u8], from: Stretch, fault: Fault, section: usize, field: usize) -> Mistake
+    ensures { result ≡ InLine fault from.number section field (word_at text.now from.at from.end) }
 {
-    let sort = line.sort;
-    let section = line.section;
-    match sort {
-        Sort::Silent => made(text, at, end, number, Fault::Nothing, 0, 0),
-        Sort::Unknown => made(text, at, end, number, Fault::Unknown, 0, 0),
-        Sort::Good => made(
-            text,
-            at,
-            end,
-            number,
-            room_fault(counts, most, section),
+    Mistake::InLine {
+        fault,
+        line: from.number,
+        section,
+        field,
+        word: words::word_at(text, from.at, from.end),
+    }
+}
+
+// What is wrong with a line; a good one is counted, where its section may have one more.
+#[tactic(auto, unfolding(crate::specs::Lines::line_told, crate::specs::Mistakes::line_fault, crate::specs::Mistakes::counted_by))]
+fn mistake_at(text: &[u8], here: Stretch, line: &Line, tally: &mut Tally) -> Option<Mistake>
+    requires { Stands text.now here.at here.end line.now }
+    ensures found { result ≡ option_map (mistake_at text.now here.at here.end here.number)
+        (line_fault tally.old.most tally.old.counts
+        (words_of (part text.now here.at here.end)) (line_told text.now here.end line.now)) }
+    ensures counted { tally.new.counts ≡ counted_by tally.old.most tally.old.counts line.now }
+    ensures most { tally.new.most ≡ tally.old.most }
+{
+    match *line {
+        Line::Silent => None,
+        Line::Unknown => Some(made(text, here, Fault::Unknown, 0, 0)),
+        Line::Good { section, .. } => {
+            if tally.counts[section] < tally.most[section] {
+                tally.counts[section] += 1;
+                return None;
+            }
+            Some(made(text, here, Fault::TooMany, section, 0))
+        }
+        Line::Wrong {
             section,
-            0,
-        ),
-        Sort::Wrong => made(
-            text,
-            line.place,
-            end,
-            number,
-            field_fault(section, line.count),
-            section,
-            line.count,
-        ),
-    }
-}
-
-// The counts with one line more.
-fn counted(line: Line, counts: [usize; 7], most: [usize; 7]) -> [usize; 7]
-    ensures { result ≡ counted_by most counts line }
-{
-    let sort = line.sort;
-    let section = line.section;
-    match sort {
-        Sort::Silent => counts,
-        Sort::Unknown => counts,
-        Sort::Good => one_more(counts, most, section),
-        Sort::Wrong => counts,
-    }
-}
-
-fn one_more(counts: [usize; 7], most: [usize; 7], section: usize) -> [usize; 7]
-    ensures { result ≡ pick (ltb (get_or counts section 0) (get_or most section 0)) (set counts section (suc (get_or counts section 0))) counts }
-{
-    if 7 <= section {
-        return counts;
-    }
-    let count = counts[section];
-    let limit = most[section];
-    if limit <= count {
-        return counts;
-    }
-    let mut more = counts;
-    more[section] = next(count, limit);
-    more
-}
-
-pub(crate) fn next(count: usize, limit: usize) -> usize
-    requires { count < limit }
-    ensures { result ≡ suc count }
-{
-    count + 1
-}
-
-fn of_no_line(fault: Fault) -> Mistake
-    ensures { result ≡ of_no_line fault }
-{
-    Mistake {
-        fault: fault,
-        line: 0,
-        section: 0,
-        field: 0,
-        from: 0,
-        to: 0,
+            count,
+            place,
+        } => {
+            let behind = Stretch { at: place, ..here };
+            Some(made(text, behind, field_fault(section, count), section, count))
+        }
     }
 }
 
 // The first mistake of a text, where each section may have so many lines, and the version's line is the last.
-pub fn mistake_of(text: &[u8], version: u64, most: [usize; 7]) -> Mistake
+pub fn mistake_of(text: &[u8], version: u64, most: [usize; 7]) -> Option<Mistake>
     ensures { result ≡ mistake_in text.now version most }
 {
-    let n = text.len();
-    let mut counts = [0usize; 7];
+    let mut tally = Tally {
+        counts: [0; 7],
+        most,
+    };
     let mut number = 0;
     let mut at = 0;
-    while at <= n {
+    while at <= text.len() {
         let end = words::line_end(text, at);
         let line = line_of(text, at, end, version);
         number += 1;
-        let mistake = mistake_at(text, at, end, number, line, counts, most);
-        let fault = mistake.fault;
-        if is_fault(fault) {
+        let mistake = mistake_at(text, Stretch { number, at, end }, &line, &mut tally);
+        if mistake.is_some() {
             return mistake;
         }
-        counts = counted(line, counts, most);
         at = end + 1;
     }
-    if counts[0] == 0 {
-        return of_no_line(Fault::NoDelays);
+    if tally.counts[0] == 0 {
+        return Some(Mistake::NoDelays);
     }
-    of_no_line(Fault::Nothing)
+    None
 }

@@ -1,4 +1,5 @@
 pub mod PutLaws
 pub mod DecimalLaws
 pub mod LineLaws
+pub mod GainLaws
 pub mod Unique

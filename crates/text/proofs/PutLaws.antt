@@ -8,8 +8,8 @@ use native.Mathlib.Omega.{arith}
 use native.Mathlib.Numerals.{add-one}
 use native.Mathlib.Nat.{lt_of_not-le, zero-sub, sub-zero, suc-sub-suc, add-zero, add_assoc}
 use native.Mathlib.Decide.{dec_le}
-use lib.ListN.{length, take, drop, get_or, set, length-append, length-take, length-drop, take-append-drop}
-use lib.Seq.{take-nil, take_all, take-suc, take_at, drop-append-add, drop-drop, set_split, append_snoc}
+use lib.ListN.{length, take, drop, set, length-append, length-take, length-drop, take-append-drop}
+use lib.Seq.{take-nil, take_all, take_at, drop-append-add, drop-drop, set_split, append_snoc}
 use Rattle.text.specs.Text.{fitting, Puts}
 
 pub puts_settles : (b : List ℕ) (at : ℕ) (xs : List ℕ) (r s : ℕ) (a c : List ℕ) → Puts b at xs r a → Puts b at xs s c → (r ≡ s) × (a ≡ c)
@@ -88,11 +88,6 @@ puts_more b at xs r m ys s a p q = go (dec_le at (length b))
         let h : length m ≤ r = rw (e.0, e.1) past in
         let k = puts_settles m r ys s r a m q (puts_past m r ys h) in
         rw (k.0, k.1, e.0, e.1) (puts_past b at (xs ++ ys) past)
-
--- one byte more of a list of bytes
-pub puts_next : (b : List ℕ) (at : ℕ) (xs : List ℕ) (i r : ℕ) (m : List ℕ) (s : ℕ) (a : List ℕ) → i < length xs
-    → Puts b at (take i xs) r m → Puts m r (get_or xs i 0 ∷ []) s a → Puts b at (take (i + 1) xs) s a
-puts_next b at xs i r m s a h p q = rw (add-one, take-suc xs i 0 h) (puts_more b at (take i xs) r m (get_or xs i 0 ∷ []) s a p q)
 
 -- ---- bytes for which there is room, at the start
 module _ (b xs : List ℕ) (r : ℕ) (a : List ℕ) (room : length xs ≤ length b) (p : Puts b 0 xs r a) where

@@ -4,6 +4,7 @@ use Prim.Native.Nat.{ℕ, zero, suc, ◌*◌, ◌/◌, ◌≤◌, ◌<◌}
 use mathlib.Core.Path.{◌≡◌, refl, ap, ◌∙◌}
 use mathlib.Core.List.{List, [], ◌∷◌, ◌++◌, append-nil}
 use native.Mathlib.Omega.{arith}
+use Rattle.std.specs.Prelude.{None}
 use native.Mathlib.Nat.{zero-mul, mul-le-mul_right, lt-div-mul-add}
 use borrow.Author.Tests.{le-leb, ne_eqb}
 use lib.ListN.{length, get_or, drop, replicate, length-drop, get_or-replicate}
@@ -19,7 +20,6 @@ use Rattle.notation.specs.Back.{Sayable, Printable}
 use Rattle.notation.proofs.ShapeLaws.{by_section, fields_some}
 use Rattle.notation.proofs.LineLaws.{line_back}
 use Rattle.notation.proofs.BackLaws.{version_sayable, version_said, table_said, lines_are}
-use Rattle.parser.specs.declared.mistakes.Fault.TheVariants.{Nothing}
 use Rattle.parser.specs.Mistakes.{mistake_in}
 use Rattle.parser.specs.Tables.{most_for, room_in, first_mistake}
 use Rattle.parser.proofs.RightLaws.{Right, AllRight, whole_below, Enough, right_lines}
@@ -132,7 +132,7 @@ module _ (lists : ℕ → List ℕ) (p : Printable lists) where
       delays = omega (arith, delays_many);
     }
 
-    pub printed_right : (first_mistake (printed lists) before).fault ≡ Nothing
+    pub printed_right : first_mistake (printed lists) before ≡ None
     unfolding first_mistake mistake_in
     printed_right =
         rw (lines_are lists p, version_said lists p)

@@ -4,7 +4,7 @@
 use Prim.Native.Nat.{ℕ, zero, suc, ◌-◌, ◌*◌, ◌/◌, ◌≤◌, ◌<◌}
 use mathlib.Core.Path.{◌≡◌, refl, sym, ap, ◌∙◌}
 use mathlib.Core.List.{List, [], ◌∷◌, ◌++◌}
-use mathlib.Core.Option.{none}
+use Rattle.std.specs.Prelude.{None}
 use native.Mathlib.Omega.{arith}
 use lib.ListN.{length, get_or, take, drop, replicate}
 use Rattle.base.specs.Tabulate.{tabulate}
@@ -32,7 +32,7 @@ zeros_after [] m k = zero_at m k
 zeros_after (n ∷ row) m zero = refl
 zeros_after (n ∷ row) m (suc k) = zeros_after row m k
 
-fault_before : (kind : ℕ) (row : List ℕ) (m : ℕ) → row_fault Writing kind (row ++ replicate m 0) ≡ none → row_fault Writing kind row ≡ none
+fault_before : (kind : ℕ) (row : List ℕ) (m : ℕ) → row_fault Writing kind (row ++ replicate m 0) ≡ None → row_fault Writing kind row ≡ None
 fault_before kind row m e = sym (fault_same Writing kind (row ++ replicate m 0) row (zeros_after row m)) ∙ e
 
 -- ---- what the writer accepts
@@ -65,7 +65,7 @@ module _ (ls : Lists) (w : Writable ls) where
       whole_in (suc s) low high = sym (w.full s (omega arith))
 
       good_in : (s i : ℕ) → 1 ≤ s → s ≤ 5 → i < length (list_for ls s) / listed s
-          → row_fault Writing (kind_of (get_or (list_for ls 0) 0 1) s) (record_in (list_for ls s) s i) ≡ none
+          → row_fault Writing (kind_of (get_or (list_for ls 0) 0 1) s) (record_in (list_for ls s) s i) ≡ None
       good_in zero i low high h = absurd (omega arith)
       good_in (suc s) i low high h =
           let kind = kind_for ls (suc s) in

@@ -1,6 +1,6 @@
 -- Tables as text, both ways: a table that is unpacked and printed is packed from that text to the same bytes, a text that can be packed
 -- says what its table unpacks to, and what is printed is read without a mistake. Assumes nothing.
-use Rattle.std.specs.Prelude.{ℕ, ◌≤◌, List, ◌≡◌, length}
+use Rattle.std.specs.Prelude.{ℕ, ◌≤◌, List, ◌≡◌, length, None, Result, Ok}
 use Rattle.base.specs.Tabulate.{tabulate}
 use Rattle.bits.specs.Bits.{Bytes}
 use Rattle.table.specs.Answers.{accepted}
@@ -11,8 +11,7 @@ use Rattle.table.specs.RoundTrip.{RoomFor}
 use Rattle.table.specs.Write.{write_answer, packed}
 use Rattle.notation.specs.Meant.{list_in}
 use Rattle.notation.specs.Printed.{printed}
-use Rattle.parser.specs.declared.mistakes.Fault.TheVariants.{Nothing}
-use Rattle.parser.specs.declared.Parsed.{Parsed}
+use Rattle.parser.specs.declared.mistakes.Mistake.{Mistake}
 use Rattle.parser.specs.Tables.{room_in, first_mistake, ReadsTo}
 
 -- the lists that a text says
@@ -31,19 +30,18 @@ SaidBack = (ls : Lists) (room : ℕ) → write_answer ls room ≡ accepted → s
 abbrev pub PrintedIsRead : Type 0
 PrintedIsRead =
     (ls : Lists) (room : ℕ) → write_answer ls room ≡ accepted → (before : Lists) → RoomFor ls before
-    → (first_mistake (text_for ls) before).fault ≡ Nothing
+    → first_mistake (text_for ls) before ≡ None
 
--- lists that were read: no mistake, how long each is, and each as it is, with zeros behind
-pub record ListsRead (ls before : Lists) (r : Parsed) (after : Lists) : Type 0 where
-  pub mistake : r.mistake.fault ≡ Nothing
-  pub lengths : r.lengths ≡ tabulate (λ s. length (list_for ls s)) 6
+-- lists that were read: no mistake but how long each is, and each as it is, with zeros behind
+pub record ListsRead (ls before : Lists) (r : Result (List ℕ) Mistake) (after : Lists) : Type 0 where
+  pub lengths : r ≡ Ok (tabulate (λ s. length (list_for ls s)) 6)
   pub held : after ≡ lists_by (λ s. lent (room_in before s) (list_for ls s))
 
 -- a routine that reads as `parser::read` does reads them back from what is printed for them
 abbrev pub PrintedReadBack : Type 0
 PrintedReadBack =
     (ls : Lists) (room : ℕ) → write_answer ls room ≡ accepted → (before : Lists) → RoomFor ls before
-    → (r : Parsed) (after : Lists) → ReadsTo (text_for ls) before r after → ListsRead ls before r after
+    → (r : Result (List ℕ) Mistake) (after : Lists) → ReadsTo (text_for ls) before r after → ListsRead ls before r after
 
 -- unpacked, printed, read and packed again, a table that the unpacker accepts is the same bytes; `Bytes bytes` as in the table's round trip
 abbrev pub PackAfterUnpack : Type 0

@@ -5,7 +5,7 @@ use Prim.Native.Nat.{ℕ, ◌<◌}
 use mathlib.Core.Path.{◌≡◌, refl, sym, ap, ◌∙◌}
 use mathlib.Core.Bool.{Bool, true, false, not, ◌&&◌, false≢true}
 use mathlib.Core.List.{List, [], ◌∷◌, ◌++◌, append_assoc, append-nil}
-use mathlib.Core.Option.{some}
+use Rattle.std.specs.Prelude.{Some}
 use native.Mathlib.Omega.{arith}
 use borrow.Author.Tests.{ne_eqb}
 use lib.ListN.{length}
@@ -161,4 +161,4 @@ decimal_word n = let d = digits_alone n in digits_word (decimal n) d.0 d.1
 pub number_back : NumberBack
 number_back n h =
     let d = digits_alone n in
-    (decimal_word n, numeral_some (decimal n) d.0 d.1 ∙ ap some (rw (spells_back n h) (omega arith)))
+    (decimal_word n, numeral_some (decimal n) d.0 d.1 ∙ ap Some (rw (spells_back n h) (omega arith)))

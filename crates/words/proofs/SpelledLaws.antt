@@ -4,7 +4,7 @@ use Prim.Native.Nat.{ℕ, suc, ◌+◌, ◌-◌, ◌*◌, ◌^◌, ◌≤◌, �
 use mathlib.Core.Path.{◌≡◌, refl, sym, ◌∙◌}
 use mathlib.Core.Bool.{true, false}
 use mathlib.Core.List.{List, [], ◌∷◌}
-use mathlib.Core.Option.{none, some}
+use Rattle.std.specs.Prelude.{None, Some}
 use native.Mathlib.Omega.{arith}
 use lib.ListN.{length, drop, get_or, drop_of_length-le}
 use lib.Seq.{drop-cons}
@@ -22,17 +22,17 @@ capped_early v (b ∷ bs) =
     rw (spells_next v b bs, spells_next (min v greatest) b bs)
     (sym (capped_early (min v greatest * 10 + (b - 48)) bs) ∙ rw e (capped_early (v * 10 + (b - 48)) bs))
 
-pub numeral_some : (w : List ℕ) → 0 < length w → all digit w ≡ true → numeral w ≡ some (min (spells 0 w) greatest)
+pub numeral_some : (w : List ℕ) → 0 < length w → all digit w ≡ true → numeral w ≡ Some (min (spells 0 w) greatest)
 unfolding numeral
 numeral_some [] h e = absurd (omega arith)
 numeral_some (b ∷ w) h e = rw e
 
-pub numeral_none : (w : List ℕ) → all digit w ≡ false → numeral w ≡ none
+pub numeral_none : (w : List ℕ) → all digit w ≡ false → numeral w ≡ None
 unfolding numeral
 numeral_none [] e = refl
 numeral_none (b ∷ w) e = rw e
 
-pub numeral_empty : (w : List ℕ) → length w ≡ 0 → numeral w ≡ none
+pub numeral_empty : (w : List ℕ) → length w ≡ 0 → numeral w ≡ None
 unfolding numeral
 numeral_empty [] h = refl
 numeral_empty (b ∷ w) h = absurd (omega arith)

@@ -1,12 +1,7 @@
 -- Where the lines and words of a text stand: what the routines answer, by places in the whole text.
 -- Assumes nothing.
 use Rattle.std.specs.Prelude.{ℕ, ◌+◌, ◌-◌, Bool, not, ◌||◌, List, length, take, drop}
-use Rattle.std.proofs.Math.Option.{Option, none, some}
 use Rattle.words.specs.declared.Span.{Span}
-use Rattle.words.specs.declared.Sought.{Sought}
-use Rattle.words.specs.declared.Sought.TheVariants.{LineFeed, Word, WordEnd}
-use Rattle.words.specs.declared.Numeral.{Numeral}
-use Rattle.words.specs.declared.Numeral.TheVariants.{Number, NotANumber}
 use Rattle.words.specs.Words.{feed, hash, blank, before}
 
 -- The bytes of a text from one place to before another.
@@ -33,14 +28,3 @@ unfoldable pub word_at : List ℕ → ℕ → ℕ → Span
 word_at text at end =
     let from = first_place begins text at end in
     record { from = from; to = first_place ends text from end }
-
--- What a walk over the bytes looks for, as a test.
-unfoldable pub sought : Sought → ℕ → Bool
-sought LineFeed b = feed b
-sought Word b = begins b
-sought WordEnd b = ends b
-
--- What the answer says of the word's number.
-unfoldable pub told : Numeral → Option ℕ
-told (Number n) = some n
-told NotANumber = none

@@ -1,7 +1,6 @@
 -- Words and lines as they are printed, and that they are read back.
 -- Assumes nothing.
-use Rattle.std.specs.Prelude.{ℕ, ◌<◌, ◌^◌, ◌≡◌, Bool, true, false, not, ◌&&◌, List, [], ◌∷◌, ◌++◌}
-use Rattle.std.proofs.Math.Option.{some}
+use Rattle.std.specs.Prelude.{ℕ, ◌<◌, ◌^◌, ◌≡◌, Bool, true, false, not, ◌&&◌, List, [], ◌∷◌, ◌++◌, Some}
 use Rattle.text.specs.Text.{decimal, all}
 use Rattle.words.specs.Words.{feed, lines_of, words_of, numeral}
 use Rattle.words.specs.Places.{ends}
@@ -60,7 +59,7 @@ WordsAreALine = (ws : List (List ℕ)) → are_words ws ≡ true → all in_line
 
 -- A number in decimal is a word, and the number of that word.
 abbrev pub NumberBack : Type 0
-NumberBack = (n : ℕ) → n < 2 ^ 64 → (is_word (decimal n) ≡ true) × (numeral (decimal n) ≡ some n)
+NumberBack = (n : ℕ) → n < 2 ^ 64 → (is_word (decimal n) ≡ true) × (numeral (decimal n) ≡ Some n)
 
 -- A comment changes nothing of the words before it, and neither does the carriage return (13) that some texts have before a line feed.
 abbrev pub CommentPassed : Type 0

@@ -1,7 +1,6 @@
 -- A text as lines of words, and the number that a word spells: "A line is one record; # begins a comment" (examples/README.md).
 -- Assumes nothing.
-use Rattle.std.specs.Prelude.{ℕ, ◌-◌, ◌^◌, min, Bool, true, false, ◌&&◌, ◌||◌, List, [], ◌∷◌, eqb}
-use Rattle.std.proofs.Math.Option.{Option, none, some}
+use Rattle.std.specs.Prelude.{ℕ, ◌-◌, ◌^◌, min, Bool, true, false, ◌&&◌, ◌||◌, List, [], ◌∷◌, eqb, Option, None, Some}
 use Rattle.base.specs.Pick.{pick}
 use Rattle.text.specs.Text.{spells, all, digit}
 
@@ -52,8 +51,8 @@ words_of line = present (split_at blank (uncommented line))
 -- The number of a word of digits alone; none of any other. A number above 2 ^ 64 - 1 counts as 2 ^ 64 - 1, so that none is cut off to a
 -- smaller one that a field holds.
 unfoldable pub numeral : List ℕ → Option ℕ
-numeral [] = none
-numeral (b ∷ bs) = pick (all digit (b ∷ bs)) (some (min (spells 0 (b ∷ bs)) (2 ^ 64 - 1))) none
+numeral [] = None
+numeral (b ∷ bs) = pick (all digit (b ∷ bs)) (Some (min (spells 0 (b ∷ bs)) (2 ^ 64 - 1))) None
 
 -- Two words are one, byte by byte.
 unfoldable pub same : List ℕ → List ℕ → Bool

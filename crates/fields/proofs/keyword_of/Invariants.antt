@@ -1,6 +1,5 @@
 -- `fields::keyword_of` meets its contract: at each turn the word is none of the keywords before.
 -- Assumes nothing.
-use Prim.Native.Nat.{◌-◌, ◌≤◌}
 use mathlib.Core.Path.{◌≡◌}
 use lib.ListN.{drop}
 use Rattle.words.specs.Places.{part}
@@ -10,9 +9,5 @@ use Rattle.fields.proofs.keyword_of.Given as goal
 
 abbrev pub invariant-loop-section : goal.invariant-loop-section
 invariant-loop-section l =
-    (l.section ≤ 7)
-    × (word_in keywords (part l.text l.span.from l.span.to)
-    ≡ behind l.section (word_in (drop l.section keywords) (part l.text l.span.from l.span.to)))
-
-abbrev pub decreases-loop-section : goal.decreases-loop-section
-decreases-loop-section l = 7 - l.section
+    word_in keywords (part l.text l.span.from l.span.to)
+    ≡ behind l.section (word_in (drop l.section keywords) (part l.text l.span.from l.span.to))

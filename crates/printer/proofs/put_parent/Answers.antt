@@ -1,20 +1,18 @@
 -- `printer::put_parent` meets its contract: `none` for 0, and else `after` and the row, which is one less.
 -- Assumes nothing.
-use mathlib.Core.List.{◌∷◌}
-use native.Mathlib.Omega.{arith}
+use Rattle.std.proofs.Common.{◌∷◌, arith}
 use Rattle.words.specs.Printed.{line_from}
-use Rattle.text.proofs.PutLaws.{puts_more}
+use Rattle.text.proofs.GainLaws.{gains_more}
 use Rattle.notation.specs.Notation.{none_word, after_word, parent_words}
 use Rattle.notation.proofs.PrintedLaws.{parent_after}
 use Rattle.printer.proofs.put_parent.Goals as goal
 
-pub returns-then-n-eq0 : goal.returns-then-n-eq0
+pub returns-in-0 : goal.returns-in-0
 unfolding parent_words none_word line_from
-returns-then-n-eq0 c = rw c.if-n-eq0.true c.put_bytes.ensures
+returns-in-0 c = rw c.in-0.is c.put_bytes.ensures
 
-pub returns : goal.returns
+pub returns-in_default : goal.returns-in_default
 unfolding after_word
-returns c =
-    let after = c.put_bytes-behind.ensures in
+returns-in_default c =
     rw (parent_after c.args.n (omega arith))
-    (puts_more _ _ (32 ∷ after_word) _ _ _ _ _ after c.put_number.ensures)
+    (gains_more _ _ _ (32 ∷ after_word) _ c.put_bytes-in_default.ensures c.put_spaced_number.ensures)

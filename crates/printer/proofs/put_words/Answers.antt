@@ -24,5 +24,5 @@ returns-in-Parent c =
 pub returns-in_default : goal.returns-in_default
 returns-in_default c =
     let a = c.args in
-    let form = other_form a.named c.in_default.not-Kind c.in_default.not-Parent in
-    rw (decimal_words a.named a.n form, line_from_one (decimal a.n)) c.put_number.ensures
+    let form = other_form a.name c.in_default.not-Kind c.in_default.not-Parent in
+    rw (decimal_words a.name a.n form, line_from_one (decimal a.n)) c.put_spaced_number.ensures

@@ -1,28 +1,35 @@
-use mathlib.Core.Path.{refl, sym, ◌∙◌}
+use Prim.Native.Nat.{◌≤◌}
+use mathlib.Core.Bool.{true, false}
+use mathlib.Core.Path.{◌≡◌, sym, ◌∙◌}
+use native.Mathlib.Decide.{dec_le}
+use native.Mathlib.Nat.{lt_of_not-le}
 use native.Mathlib.Omega.{arith}
 use native.Mathlib.Numerals.{add-one}
-use Rattle.words.specs.Places.{sought}
+use lib.ListN.{get_or}
+use Rattle.words.specs.Places.{first_place}
 use Rattle.words.proofs.PlaceLaws.{first_stop, first_go, first_none}
 use Rattle.words.proofs.first_place.Goals as goal
 
-pub returns-then-is_sought : goal.returns-then-is_sought
-returns-then-is_sought c =
-    let l = c.loop-place in
+pub returns-then-passes : goal.returns-then-passes
+returns-then-passes g c =
     let a = c.args in
-    let passes = sym c.is_sought.ensures ∙ c.if-is_sought.true in
-    sym (first_stop (sought a.what) a.text.now l.place a.end (omega arith) (omega arith) passes) ∙ l.invariant
+    let l = c.loop-place in
+    let passes : g.test (get_or a.text.now l.place 0) ≡ true = sym (c.requires.1.1 _ _ c.passes.ensures) ∙ c.if-passes.true in
+    rw (first_stop g.test a.text.now l.place a.end (omega arith) (omega arith) passes) at l.invariant
 
 pub loop-place-preserved : goal.loop-place-preserved
-loop-place-preserved c =
-    let l = c.loop-place in
+loop-place-preserved g c =
     let a = c.args in
-    let fails = sym c.is_sought.ensures ∙ c.if-is_sought.false in
-    rw add-one (sym (first_go (sought a.what) a.text.now l.place a.end (omega arith) (omega arith) fails) ∙ l.invariant)
+    let l = c.loop-place in
+    let fails : g.test (get_or a.text.now l.place 0) ≡ false = sym (c.requires.1.1 _ _ c.passes.ensures) ∙ c.if-passes.false in
+    rw (first_go g.test a.text.now l.place a.end (omega arith) (omega arith) fails, ← add-one) at l.invariant
 
 pub returns : goal.returns
-returns c =
-    let a = c.args in
-    sym (first_none (sought a.what) a.text.now c.loop-place.place a.end (omega arith)) ∙ c.loop-place.invariant
-
-pub loop-place-init : goal.loop-place-init
-loop-place-init c = refl
+returns g c =
+    go (dec_le c.min-behind.result c.args.at)
+  where
+    go : Dec (c.min-behind.result ≤ c.args.at) → c.max.result ≡ first_place g.test c.args.text.now c.args.at c.args.end
+    go (yes h) = omega (arith, first_none g.test c.args.text.now c.args.at c.args.end (omega arith))
+    go (no h) =
+        let l = c.loop-place in
+        omega (arith, lt_of_not-le h, l.invariant, first_none g.test c.args.text.now l.place c.args.end (omega arith))

@@ -8,7 +8,7 @@ use Rattle.parser.proofs.FillLaws.{Filling}
 use Rattle.parser.proofs.filling.fill.Given as goal
 
 abbrev pub invariant-loop-at : goal.invariant-loop-at
-invariant-loop-at l = Filling (fields_of l.section) (length l.initial.list) (section_in l.version l.section (text_lines l.text)) l.list l.put (section_in l.version l.section (lines_from l.text l.at))
+invariant-loop-at l = Filling (fields_of l.section) (length l.fn.list) (section_in l.version l.section (text_lines l.text)) l.list l.put (section_in l.version l.section (lines_from l.text l.at))
 
 abbrev pub decreases-loop-at : goal.decreases-loop-at
 decreases-loop-at l = length l.text + 1 - l.at

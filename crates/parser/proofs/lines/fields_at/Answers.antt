@@ -1,17 +1,13 @@
--- `parser::lines::fields_at` meets its contract: at each turn the first k fields are said, and the words from the place on say the rest.
--- Assumes nothing.
 use mathlib.Core.Path.{refl}
 use native.Mathlib.Numerals.{add-one}
 use native.Mathlib.Omega.{arith}
-use Rattle.notation.specs.Notation.{line_fields}
-use Rattle.notation.proofs.ShapeLaws.{fields_many, fields_few}
-use Rattle.parser.proofs.FieldsLaws.{reading_start, reading_more, reading_stop, reading_end}
+use Rattle.notation.proofs.ShapeLaws.{fields_few}
+use Rattle.fields.proofs.FieldLaws.{none_left, one_more}
+use Rattle.parser.proofs.FieldsLaws.{reading_start, reading_more, reading_stop, reading_over, reading_end}
 use Rattle.parser.proofs.lines.fields_at.Goals as goal
 
 pub loop-k-init : goal.loop-k-init
-loop-k-init c =
-    let a = c.args in
-    reading_start a.text.now a.at a.end (line_fields a.version a.section) _ refl
+loop-k-init c = let a = c.args in reading_start a.text.now a.at a.end a.version a.section _ refl
 
 pub offset_bounds-numbers-k : goal.offset_bounds-numbers-k
 offset_bounds-numbers-k c = omega (arith, fields_few c.args.section)
@@ -23,30 +19,31 @@ pub loop-k-preserved : goal.loop-k-preserved
 loop-k-preserved c =
     let a = c.args in
     let l = c.loop-k in
-    let shape = c.field_at in
+    let shape = c.field_at-shape in
     let taken = c.shape_taken in
     rw add-one
-    (reading_more a.text.now a.at a.end (line_fields a.version a.section) l.numbers l.k l.place l.invariant
-    shape.result taken.result _ _
-    (omega (arith, fields_many a.version a.section)) (omega (arith, fields_few a.section))
-    shape.ensures c.in-Said.is taken.ensures)
+    (reading_more a.text.now a.at a.end a.version a.section l.numbers l.k l.place l.invariant
+    shape.result taken.result c.in-Some.said (omega arith) shape.ensures c.in-Some.is taken.ensures)
 
-pub returns-in-NotSaid : goal.returns-in-NotSaid
-returns-in-NotSaid c =
+pub returns-in_default : goal.returns-in_default
+returns-in_default c =
     let a = c.args in
     let l = c.loop-k in
-    let shape = c.field_at in
+    let shape = c.field_at-shape in
     let taken = c.shape_taken in
-    reading_stop a.text.now a.at a.end (line_fields a.version a.section) l.numbers l.k l.place l.invariant
-    a.section shape.result taken.result
-    (omega (arith, fields_many a.version a.section)) (omega (arith, fields_few a.section))
-    shape.ensures c.in-NotSaid.is taken.ensures
+    reading_stop a.text.now a.at a.end a.version a.section l.numbers l.k l.place l.invariant
+    shape.result taken.result (omega arith) shape.ensures c.in_default.is taken.ensures
+
+pub returns-then-over : goal.returns-then-over
+returns-then-over c =
+    let a = c.args in
+    let l = c.loop-k in
+    reading_over a.text.now a.at a.end a.version a.section l.numbers l.k l.place l.invariant _ _ _ (omega arith) (omega arith)
+    (one_more a.text.now l.place a.end _ c.word_at-over.ensures (omega arith))
 
 pub returns : goal.returns
 returns c =
     let a = c.args in
     let l = c.loop-k in
-    let many = fields_many a.version a.section in
-    reading_end a.text.now a.at a.end (line_fields a.version a.section) l.numbers l.k l.place l.invariant
-    a.section _ _ (omega (arith, many, l.invariant.few)) (omega (arith, many)) (omega (arith, many, l.invariant.few, fields_few a.section))
-    c.sort_behind-sort.ensures
+    reading_end a.text.now a.at a.end a.version a.section l.numbers l.k l.place l.invariant c.requires (omega arith)
+    (none_left a.text.now l.place a.end _ c.word_at-over.ensures (omega arith))

@@ -1,51 +1,55 @@
--- `parser::mistakes::mistake_at` meets its contract: the sort of the line tells its fault, and the word that it is said of.
+-- `parser::mistakes::mistake_at` meets its contract: the kind of the line tells its fault, and the word that it is said of.
 -- Assumes nothing.
 use Prim.Native.Nat.{ℕ}
-use mathlib.Core.Path.{sym, ap, ◌∙◌}
+use mathlib.Core.Path.{ap, ◌∙◌}
+use Rattle.std.specs.Prelude.{Some}
+use native.Mathlib.Omega.{arith}
+use borrow.Author.Tests.{le-ltb}
 use lib.Dec.{ltb}
+use lib.ListN.{get_or}
 use Rattle.base.specs.Pick.{pick}
-use Rattle.words.specs.Words.{words_of}
-use Rattle.words.specs.Places.{part, word_at}
-use Rattle.notation.specs.Meant as meant
+use Rattle.words.specs.Places.{word_at}
 use Rattle.notation.specs.Steps.{fields_of}
+use Rattle.fields.specs.Fields.{Behind, words_from, place_behind}
 use Rattle.parser.specs.declared.mistakes.Fault.{Fault}
 use Rattle.parser.specs.declared.mistakes.Fault.TheVariants.{NotSaid, Over}
 use Rattle.parser.specs.declared.mistakes.Mistake.{Mistake}
-use Rattle.fields.specs.Fields.{words_from, place_behind}
-use Rattle.parser.specs.Mistakes.{line_fault, mistake_at, made_at}
-use Rattle.parser.proofs.LineLaws.{told_silent, told_unknown, told_good, told_wrong}
+use Rattle.parser.specs.declared.mistakes.Mistake.TheVariants.{InLine}
+use Rattle.parser.specs.Lines.{line_told, Stands}
+use Rattle.parser.specs.Mistakes.{line_fault, mistake_at}
+use Rattle.parser.proofs.LineLaws.{good_few}
 use Rattle.parser.proofs.mistakes.mistake_at.Goals as goal
 
-pub returns-in-Silent : goal.returns-in-Silent
-unfolding mistake_at line_fault place_behind
-returns-in-Silent c =
-    let a = c.args in
-    let says : meant.Line → Mistake = λ (l : meant.Line). mistake_at a.text.now a.at a.end a.number (line_fault a.most a.counts (words_of (part a.text.now a.at a.end)) l) in
-    c.made.ensures ∙ sym (ap says (told_silent a.text.now a.at a.end a.line c.in-Silent.is))
+pub offset_bounds-tally-section : goal.offset_bounds-tally-section
+offset_bounds-tally-section c = omega (arith, good_few _ _ _ _ _ _ c.requires c.in-Good.is)
 
-pub returns-in-Unknown : goal.returns-in-Unknown
-unfolding mistake_at line_fault place_behind
-returns-in-Unknown c =
-    let a = c.args in
-    let says : meant.Line → Mistake = λ (l : meant.Line). mistake_at a.text.now a.at a.end a.number (line_fault a.most a.counts (words_of (part a.text.now a.at a.end)) l) in
-    c.made-in-Unknown.ensures ∙ sym (ap says (told_unknown a.text.now a.at a.end a.line c.in-Unknown.is))
+pub bounds-tally-section : goal.bounds-tally-section
+bounds-tally-section c = good_few _ _ _ _ _ _ c.requires c.in-Good.is
 
-pub returns-in-Good : goal.returns-in-Good
-unfolding mistake_at line_fault place_behind
-returns-in-Good c =
-    let a = c.args in
-    let says : meant.Line → Mistake = λ (l : meant.Line). mistake_at a.text.now a.at a.end a.number (line_fault a.most a.counts (words_of (part a.text.now a.at a.end)) l) in
-    c.made-in-Good.ensures
-    ∙ ap (λ (f : Fault). made_at (word_at a.text.now a.at a.end) a.number f a.line.section 0) c.room_fault.ensures
-    ∙ sym (ap says (told_good a.text.now a.at a.end a.line c.in-Good.is))
+pub offset_bounds-tally-section-in-Good : goal.offset_bounds-tally-section-in-Good
+offset_bounds-tally-section-in-Good c = omega (arith, good_few _ _ _ _ _ _ c.requires c.in-Good.is)
 
-pub returns-in-Wrong : goal.returns-in-Wrong
-unfolding mistake_at line_fault words_from
-returns-in-Wrong c =
+pub bounds-tally-section-in-Good : goal.bounds-tally-section-in-Good
+bounds-tally-section-in-Good c = good_few _ _ _ _ _ _ c.requires c.in-Good.is
+
+pub returns-in-Unknown-clause-found : goal.returns-in-Unknown-clause-found
+unfolding line_told line_fault mistake_at place_behind
+returns-in-Unknown-clause-found c = rw c.in-Unknown.is (ap Some c.made.ensures)
+
+pub returns-else-tally-section-clause-found : goal.returns-else-tally-section-clause-found
+unfolding line_told line_fault mistake_at place_behind
+returns-else-tally-section-clause-found c =
     let a = c.args in
-    let says : meant.Line → Mistake = λ (l : meant.Line). mistake_at a.text.now a.at a.end a.number (line_fault a.most a.counts (words_of (part a.text.now a.at a.end)) l) in
-    let fault : Fault = pick (ltb a.line.count (fields_of a.line.section)) NotSaid Over in
-    c.made-in-Wrong.ensures
-    ∙ ap (λ (f : Fault). made_at (word_at a.text.now a.line.place a.end) a.number f a.line.section a.line.count) c.field_fault.ensures
-    ∙ ap (λ (p : ℕ). made_at (word_at a.text.now p a.end) a.number fault a.line.section a.line.count) c.requires.place
-    ∙ sym (ap says (told_wrong a.text.now a.at a.end a.line c.in-Wrong.is))
+    let s = c.in-Good.section in
+    rw (c.in-Good.is, le-ltb (get_or a.tally.now.counts s 0) (get_or a.tally.now.most s 0) c.if-tally-section.false) (ap Some c.made-in-Good.ensures)
+
+pub returns-in-Wrong-clause-found : goal.returns-in-Wrong-clause-found
+unfolding line_told line_fault mistake_at Stands words_from
+returns-in-Wrong-clause-found c =
+    let a = c.args in
+    let w = c.in-Wrong in
+    let behind : Behind a.text.now a.here.at a.here.end w.place = rw w.is at c.requires in
+    let fault : Fault = pick (ltb w.count (fields_of w.section)) NotSaid Over in
+    let made : Fault → ℕ → Mistake = λ (f : Fault) (p : ℕ). InLine f a.here.number w.section w.count (word_at a.text.now p a.here.end) in
+    rw w.is
+    (ap Some (c.made-in-Wrong.ensures ∙ ap (λ (f : Fault). made f w.place) c.field_fault.ensures ∙ ap (made fault) behind.place))

@@ -11,7 +11,7 @@ abbrev pub invariant-loop-at : goal.invariant-loop-at
 invariant-loop-at l =
     (l.number ≤ l.at)
     × (l.at ≡ line_start l.text l.number)
-    × (mistake_from l.text l.version l.most l.counts l.number (lines_from l.text l.at) ≡ mistake_in l.text l.version l.most)
+    × (mistake_from l.text l.version l.tally.most l.tally.counts l.number (lines_from l.text l.at) ≡ mistake_in l.text l.version l.fn.most)
 
 abbrev pub decreases-loop-at : goal.decreases-loop-at
 decreases-loop-at l = length l.text + 1 - l.at
