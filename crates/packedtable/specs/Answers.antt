@@ -1,7 +1,7 @@
 -- The unpacker's and the writer's answers, as the exported structs carry them: 01's number, section and row, the test that failed, and the counts.
 -- Assumes nothing.
-use Rattle.table.specs.declared.Unpacked.{Unpacked}
-use Rattle.table.specs.declared.Written.{Written}
+use Rattle.table.specs.Unpack.{Unpacked}
+use Rattle.table.specs.Write.{Written}
 use Rattle.table.specs.Answers.{answer}
 use Rattle.packedtable.specs.declared.UnpackAnswer.{UnpackAnswer}
 use Rattle.packedtable.specs.declared.WriteAnswer.{WriteAnswer}

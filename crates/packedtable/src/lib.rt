@@ -2,12 +2,13 @@
 // Bytes and flat lists of numbers are lent; a struct of number, section, row, test and values goes out. Both answer for all input, as the unpacker and the writer do.
 #![tactic(auto)]
 
-ghost use Rattle.std.specs.Prelude.{length};
+ghost use Rattle.std.specs.Prelude.{◌≡◌, length};
 ghost use Rattle.table.specs.Lists.{lists};
-ghost use Rattle.table.specs.Unpack.{Unpacks};
-ghost use Rattle.table.specs.Write.{Writes};
+ghost use Rattle.table.specs.Unpack.{unpacked_by, Unpacks};
+ghost use Rattle.table.specs.Write.{written_by, Writes};
 ghost use Rattle.packedtable.specs.Answers.{unpack_said, write_said};
 
+use table::{Counts, Lists, ListsMut, Refusal};
 use unpacker::unpack;
 use writer::write;
 
@@ -55,18 +56,48 @@ pub extern "C" fn avulgjesh_unpack(
         ports.new
         hops.new) }
 {
-    let u = unpack(table, header, systems, vls, streams, ports, hops);
-    let a = u.answer;
-    UnpackAnswer {
-        number: a.number,
-        section: a.section,
-        row: a.row,
-        test: a.test,
-        systems: u.systems,
-        vls: u.vls,
-        streams: u.streams,
-        ports: u.ports,
-        hops: u.hops,
+    let lent = ListsMut {
+        header,
+        systems,
+        vls,
+        streams,
+        ports,
+        hops,
+    };
+    unpack_answer(unpack(table, lent))
+}
+
+// No record is counted on a refusal.
+#[tactic(auto, unfolding(crate::specs::Answers::unpack_said, table::specs::Unpack::unpacked_by))]
+fn unpack_answer(unpacked: Result<Counts, Refusal>) -> UnpackAnswer
+    ensures { unpack_said result ≡ unpacked_by unpacked }
+{
+    match unpacked {
+        Ok(counts) => UnpackAnswer {
+            number: 0,
+            section: 0,
+            row: 0,
+            test: 0,
+            systems: counts.systems,
+            vls: counts.vls,
+            streams: counts.streams,
+            ports: counts.ports,
+            hops: counts.hops,
+        },
+        Err(refusal) => {
+            let answer = refusal.answer();
+            UnpackAnswer {
+                number: answer.number,
+                section: answer.section,
+                row: answer.row,
+                test: answer.test,
+                systems: 0,
+                vls: 0,
+                streams: 0,
+                ports: 0,
+                hops: 0,
+            }
+        }
     }
 }
 
@@ -104,13 +135,39 @@ pub extern "C" fn avulgjesh_write(
         (write_said result)
         out.new }
 {
-    let w = write(header, systems, vls, streams, ports, hops, out);
-    let a = w.answer;
-    WriteAnswer {
-        number: a.number,
-        section: a.section,
-        row: a.row,
-        test: a.test,
-        length: w.length,
+    let given = Lists {
+        header,
+        systems,
+        vls,
+        streams,
+        ports,
+        hops,
+    };
+    write_answer(write(given, out))
+}
+
+// No byte is counted on a refusal.
+#[tactic(auto, unfolding(crate::specs::Answers::write_said, table::specs::Write::written_by))]
+fn write_answer(written: Result<usize, Refusal>) -> WriteAnswer
+    ensures { write_said result ≡ written_by written }
+{
+    match written {
+        Ok(length) => WriteAnswer {
+            number: 0,
+            section: 0,
+            row: 0,
+            test: 0,
+            length,
+        },
+        Err(refusal) => {
+            let answer = refusal.answer();
+            WriteAnswer {
+                number: answer.number,
+                section: answer.section,
+                row: answer.row,
+                test: answer.test,
+                length: 0,
+            }
+        }
     }
 }

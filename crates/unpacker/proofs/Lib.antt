@@ -1,7 +1,7 @@
-pub mod PlaceLaws
+pub mod HeaderLaws
+pub mod RowLaws
 pub mod ListLaws
 pub mod ExamineLaws
-pub mod JudgeLaws
+pub mod RoomLaws
 pub mod Unique
-pub mod SectionParts
 pub mod Wiring

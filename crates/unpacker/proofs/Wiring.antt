@@ -4,11 +4,12 @@ use mathlib.Core.Bool.{true}
 use prog.Linked.{Tree, World, in_world, Holds}
 use prog.LinkedThreads.{HasT}
 use Rattle.layout.proofs.Wiring as layout
-use Rattle.unpacker.proofs.filling.clear.Symbol.{code as clear_code}
-use Rattle.unpacker.proofs.examine.counts_of.Symbol.{code as counts_of_code}
-use Rattle.unpacker.proofs.filling.fill_section.Symbol.{code as fill_section_code}
-use Rattle.unpacker.proofs.examine.header_list.Symbol.{code as header_list_code}
-use Rattle.unpacker.proofs.examine.own_answer.Symbol.{code as own_answer_code}
+use Rattle.unpacker.proofs.clear.Symbol.{code as clear_code}
+use Rattle.unpacker.proofs.counts.Symbol.{code as counts_code}
+use Rattle.unpacker.proofs.counts_of.Symbol.{code as counts_of_code}
+use Rattle.unpacker.proofs.fill_section.Symbol.{code as fill_section_code}
+use Rattle.unpacker.proofs.header_list.Symbol.{code as header_list_code}
+use Rattle.unpacker.proofs.own_answer.Symbol.{code as own_answer_code}
 use Rattle.unpacker.proofs.unpack.Symbol.{code as unpack_code}
 use Rattle.unpacker.proofs.TheLink as the_link
 
@@ -19,6 +20,7 @@ table = the_link.table
 -- what the look-up has, each under its function's name
 pub record Wiring (W : World) : Type 0 where
   pub clear : HasT (in_world W) true clear_code
+  pub counts : HasT (in_world W) true counts_code
   pub counts_of : HasT (in_world W) true counts_of_code
   pub fill_section : HasT (in_world W) true fill_section_code
   pub header_list : HasT (in_world W) true header_list_code
@@ -29,10 +31,11 @@ pub wiring : (W : World) → Holds W "unpacker" table → layout.Wiring W → Wi
 wiring W held in_layout =
     let below : the_link.Below W = assumption in
     record {
-      clear = the_link.linked-unpacker::filling::clear W held below;
-      counts_of = the_link.linked-unpacker::examine::counts_of W held below;
-      fill_section = the_link.linked-unpacker::filling::fill_section W held below;
-      header_list = the_link.linked-unpacker::examine::header_list W held below;
-      own_answer = the_link.linked-unpacker::examine::own_answer W held below;
+      clear = the_link.linked-unpacker::clear W held below;
+      counts = the_link.linked-unpacker::counts W held below;
+      counts_of = the_link.linked-unpacker::counts_of W held below;
+      fill_section = the_link.linked-unpacker::fill_section W held below;
+      header_list = the_link.linked-unpacker::header_list W held below;
+      own_answer = the_link.linked-unpacker::own_answer W held below;
       unpack = the_link.linked-unpacker::unpack W held below;
     }

@@ -1,10 +1,7 @@
-pub mod MeantLaws
-pub mod RefusalLaws
-pub mod ClearLaws
-pub mod RecordLaws
-pub mod PutLaws
+pub mod SectionLaws
 pub mod HeaderRow
-pub mod StageLaws
+pub mod RefusalLaws
+pub mod PutLaws
 pub mod WrittenLaws
-pub mod Unique
 pub mod Wiring
+pub mod Unique

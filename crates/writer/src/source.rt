@@ -1,99 +1,156 @@
-// The lists that a table is written from: their records as rows of numbers, and the bytes that they take.
-// A row is an array that has room for the longest record.
-ghost use Rattle.std.specs.Prelude.{◌≡◌, ◌*◌, ◌≤◌, ◌<◌, length};
-ghost use Rattle.layout.specs.Layout.{header_names, kind_of, size};
+// The lists that a table is written from, section by section: their rows as numbers, and the bytes that they take.
+// The header is section 0, of one row. A row is an array that has room for the longest record.
+ghost use Rattle.std.specs.Prelude.{◌≡◌, ◌*◌, ◌^◌, ◌≤◌, ◌<◌, length, get_or};
+ghost use Rattle.layout.specs.Layout.{size};
 ghost use Rattle.layout.specs.Promises.{wide};
-ghost use Rattle.table.specs.Write.{header_for, table_size};
-ghost use Rattle.writer.specs.Writing.{lists, version_in, count_in, list_numbers, HasRecord};
+ghost use Rattle.table.specs.Lent.{lists_of};
+ghost use Rattle.table.specs.Lists.{list_for, version_for, kind_for};
+ghost use Rattle.table.specs.Write.{header_for, count, meant, meant_row, numbers_in, table_size};
+ghost use Rattle.writer.specs.Writing.{HasRow};
 
 use layout::places;
-use layout::sizes::LONGEST;
+use layout::sizes::{HEADER_LIST, KINDS, LONGEST};
+use table::Lists;
 
-// How many records of a section a list has.
-pub fn records_in(list: &[u64], section: usize) -> usize
+// The sections of a table: each has records of a kind of its own.
+pub const SECTIONS: usize = KINDS;
+
+// The list of a section.
+#[tactic(auto, unfolding(table::specs::Lists::list_for), using(table::proofs::ListsLaws::no_list))]
+pub fn list_of<'a>(lists: Lists<'a>, section: usize) -> &'a [u64]
+    ensures { result.now ≡ list_for (lists_of lists.entry) section }
+{
+    match section {
+        0 => lists.header,
+        1 => lists.systems,
+        2 => lists.vls,
+        3 => lists.streams,
+        4 => lists.ports,
+        5 => lists.hops,
+        _ => &[],
+    }
+}
+
+// How many numbers the list of a section has for each row.
+#[tactic(auto, using(crate::proofs::SectionLaws::numbers_record), unfolding(table::specs::Write::numbers_in))]
+pub fn numbers_in(section: usize) -> usize
+    ensures { result ≡ numbers_in section }
+{
+    match section {
+        0 => HEADER_LIST,
+        _ => layout::numbers_in(section),
+    }
+}
+
+// How many rows a section has.
+pub fn rows_in(lists: Lists<'_>, section: usize) -> usize
     requires { section < 6 }
-    ensures { result ≡ count_in list.now section }
+    ensures is { result ≡ count (lists_of lists.entry) section }
+    ensures few { result * numbers_in section ≤ 2 ^ 60 }
 {
-    list.len() / layout::numbers_in(section)
+    let list = list_of(lists, section);
+    match section {
+        0 => 1,
+        _ => list.len() / numbers_in(section),
+    }
 }
 
-// Record i of a list: its numbers, and then zeros.
-pub fn list_row(list: &[u64], section: usize, i: usize) -> [u64; LONGEST]
-    requires { HasRecord list.now section i }
-    ensures { result ≡ wide (list_numbers list.now section i) }
+// A number of the header's list, 0 where the list ends before it.
+fn header_number(lists: Lists<'_>, place: usize) -> u64
+    ensures { result ≡ get_or (lists_of lists.entry).header place 0 }
 {
-    let n = layout::numbers_in(section);
-    let first = i * n;
-    let mut row = [0u64; LONGEST];
-    let mut k = 0;
-    while k < n {
-        row[k] = list[first + k];
-        k += 1;
+    if place < lists.header.len() {
+        lists.header[place]
+    } else {
+        0
     }
-    row
 }
 
-// The version that the header's list names, 0 where it names none.
-pub fn version_of(header: &[u64]) -> u64
-    ensures { result ≡ version_in header.now }
+// The version that the header's list names.
+pub fn version_of(lists: Lists<'_>) -> u64
+    ensures { result ≡ version_for (lists_of lists.entry) }
 {
-    if header.len() <= places::LIST_VERSION {
-        return 0;
-    }
-    header[places::LIST_VERSION]
+    header_number(lists, places::LIST_VERSION)
+}
+
+// The kind of record that the table has in a section.
+pub fn kind_of(lists: Lists<'_>, section: usize) -> usize
+    ensures { result ≡ kind_for (lists_of lists.entry) section }
+{
+    layout::kind_of(version_of(lists), section)
 }
 
 // The header that the lists ask for.
-pub fn header_row(
-    header: &[u64],
-    systems: &[u64],
-    vls: &[u64],
-    streams: &[u64],
-    ports: &[u64],
-    hops: &[u64],
-) -> [u64; LONGEST]
-    requires { length header.now ≡ length header_names }
-    ensures { result ≡ wide (header_for (lists header.now systems.now vls.now streams.now ports.now hops.now)) }
+fn header_row(lists: Lists<'_>) -> [u64; LONGEST]
+    ensures { result ≡ wide (header_for (lists_of lists.entry)) }
 {
     [
-        header[places::LIST_VERSION],
-        records_in(systems, 1) as u64,
-        records_in(vls, 2) as u64,
-        records_in(streams, 3) as u64,
-        records_in(ports, 4) as u64,
-        records_in(hops, 5) as u64,
-        header[places::LIST_SEND_LEAST],
-        header[places::LIST_SEND_GREATEST],
-        header[places::LIST_RECEIVE_LEAST],
-        header[places::LIST_RECEIVE_GREATEST],
+        header_number(lists, places::LIST_VERSION),
+        rows_in(lists, 1) as u64,
+        rows_in(lists, 2) as u64,
+        rows_in(lists, 3) as u64,
+        rows_in(lists, 4) as u64,
+        rows_in(lists, 5) as u64,
+        header_number(lists, places::LIST_SEND_LEAST),
+        header_number(lists, places::LIST_SEND_GREATEST),
+        header_number(lists, places::LIST_RECEIVE_LEAST),
+        header_number(lists, places::LIST_RECEIVE_GREATEST),
         0,
     ]
 }
 
-// The bytes that a list's records take.
-fn section_bytes(list: &[u64], version: u64, section: usize) -> usize
-    requires { section < 6 }
-    ensures { (result ≡ count_in list.now section * size (kind_of version section)) × (result ≤ 2 * length list.now) }
+// These numbers, and then zeros.
+#[tactic(auto, using(layout::proofs::RowLaws::wide_more))]
+fn widened(numbers: &[u64]) -> [u64; LONGEST]
+    requires { length numbers.now ≤ 11 }
+    ensures { result ≡ wide numbers.now }
 {
-    records_in(list, section) * layout::bytes_in(layout::kind_of(version, section))
+    let mut row = [0; LONGEST];
+    for (k, number) in numbers.iter().enumerate() {
+        row[k] = *number;
+    }
+    row
+}
+
+// Record i of a section's list.
+#[tactic(auto, using(crate::proofs::SectionLaws::record_inside))]
+fn record_row(lists: Lists<'_>, section: usize, i: usize) -> [u64; LONGEST]
+    requires { HasRow (lists_of lists) section i × (0 < section) }
+    ensures { result ≡ wide (meant_row (lists_of lists.entry) section i) }
+{
+    let list = list_of(lists, section);
+    let n = layout::numbers_in(section);
+    let first = i * n;
+    widened(&list[first..first + n])
+}
+
+// Row i of a section: what the table says there.
+pub fn row_of(lists: Lists<'_>, section: usize, i: usize) -> [u64; LONGEST]
+    requires { HasRow (lists_of lists) section i }
+    ensures { result ≡ wide (meant (lists_of lists.entry) section i) }
+{
+    match section {
+        0 => header_row(lists),
+        _ => record_row(lists, section, i),
+    }
+}
+
+// The bytes that a section takes.
+pub fn section_bytes(lists: Lists<'_>, section: usize) -> usize
+    requires { section < 6 }
+    ensures is { result ≡ count (lists_of lists.entry) section * size (kind_for (lists_of lists.entry) section) }
+    ensures few { result ≤ 2 ^ 61 }
+{
+    rows_in(lists, section) * layout::bytes_in(kind_of(lists, section))
 }
 
 // The bytes that the table takes.
-pub fn table_bytes(
-    header: &[u64],
-    systems: &[u64],
-    vls: &[u64],
-    streams: &[u64],
-    ports: &[u64],
-    hops: &[u64],
-) -> usize
-    ensures { result ≡ table_size (lists header.now systems.now vls.now streams.now ports.now hops.now) }
+pub fn table_bytes(lists: Lists<'_>) -> usize
+    ensures { result ≡ table_size (lists_of lists.entry) }
 {
-    let version = version_of(header);
-    layout::bytes_in(0)
-        + section_bytes(systems, version, 1)
-        + section_bytes(vls, version, 2)
-        + section_bytes(streams, version, 3)
-        + section_bytes(ports, version, 4)
-        + section_bytes(hops, version, 5)
+    let mut bytes = 0;
+    for section in 0..SECTIONS {
+        bytes += section_bytes(lists, section);
+    }
+    bytes
 }

@@ -1,62 +1,47 @@
--- `unpacker::unpack` meets its contract: every list has room for what the answer counts of its section, and holds it at the end.
+-- `unpacker::unpack` meets its contract: a refusal leaves zeros; on acceptance each list has room for its section, and holds it.
 -- Assumes nothing.
-use Prim.Native.Nat.{ℕ, suc, ◌<◌}
 use mathlib.Core.Path.{◌≡◌}
 use native.Mathlib.Omega.{arith}
-use lib.ListN.{length, get_or}
-use Rattle.table.specs.Lists.{Lists, lists, list_for}
-use Rattle.table.specs.Unpack.{counted}
-use Rattle.unpacker.specs.Unpacking.{start_in, Filling}
-use Rattle.unpacker.proofs.JudgeLaws.{header_fits, records_fit, unpacks_of}
-use Rattle.unpacker.proofs.unpack.Goals.{After-version_in-version}
+use Rattle.base.specs.Tabulate.{tabulate}
+use Rattle.table.specs.Answers.{accepted}
+use Rattle.table.specs.Lent.{lists_before}
+use Rattle.table.specs.Lists.{list_for}
+use Rattle.table.specs.Refusals.{said}
+use Rattle.table.specs.Unpack.{unpacked_by, counted, left}
+use Rattle.unpacker.specs.Unpacking.{judged_answer}
+use Rattle.unpacker.proofs.RoomLaws.{room, refusal_unpacks, counts_unpack, header_fits, header_left, section_left}
 use Rattle.unpacker.proofs.unpack.Goals as goal
 
--- ---- the judgement: every list has room
-module _ (c : After-version_in-version) where
-  abbrev before : Lists
-  before = let a = c.args in lists a.header.now a.systems.now a.vls.now a.streams.now a.ports.now a.hops.now
+pub returns-in-Err : goal.returns-in-Err
+unfolding said list_for left
+returns-in-Err c =
+    refusal_unpacks c.args.table.now (lists_before c.args.lists) _ _ (rw c.of-read.ensures at c.in-Err.ensures)
+    (λ i. record {
+      header = c.clear.ensures i;
+      systems = c.clear-in-Err.ensures i;
+      vls = c.clear-in-Err-2.ensures i;
+      streams = c.clear-in-Err-3.ensures i;
+      ports = c.clear-in-Err-4.ensures i;
+      hops = c.clear-in-Err-5.ensures i;
+    })
 
-  room : (s at : ℕ) → suc s < 6 → at ≡ start_in c.header_of-row.result (suc s)
-      → Filling c.args.table.now c.version_in-version.result (suc s) at (get_or (counted c.judge-taken.result) s 0) (length (list_for before (suc s)))
-  room s at h begins =
-      records_fit c.args.table.now before c.judge-taken.result c.judge-taken.ensures _ c.header_of-row.ensures.is _ at s h
-      c.version_in-version.ensures begins
-
-pub fill_header-requires : goal.fill_header-requires
-unfolding list_for
-fill_header-requires c =
-    header_fits c.args.table.now (before (goal.at.fill_header-requires c).After-version_in-version) c.judge-taken.result c.judge-taken.ensures
-
-pub fill-requires : goal.fill-requires
-unfolding counted list_for
-fill-requires c = room (goal.at.fill-requires c).After-version_in-version 0 _ (omega arith) c.start_in.ensures
-
-pub fill-requires-2 : goal.fill-requires-2
-unfolding counted list_for
-fill-requires-2 c = room (goal.at.fill-requires-2 c).After-version_in-version 1 _ (omega arith) c.start_in-2.ensures
-
-pub fill-requires-3 : goal.fill-requires-3
-unfolding counted list_for
-fill-requires-3 c = room (goal.at.fill-requires-3 c).After-version_in-version 2 _ (omega arith) c.start_in-3.ensures
-
-pub fill-requires-4 : goal.fill-requires-4
-unfolding counted list_for
-fill-requires-4 c = room (goal.at.fill-requires-4 c).After-version_in-version 3 _ (omega arith) c.start_in-4.ensures
-
-pub fill-requires-5 : goal.fill-requires-5
-unfolding counted list_for
-fill-requires-5 c = room (goal.at.fill-requires-5 c).After-version_in-version 4 _ (omega arith) c.start_in-5.ensures
+pub fill_list-requires : goal.fill_list-requires
+unfolding said
+fill_list-requires c = header_fits c.args.table.now (lists_before c.args.lists) (rw c.of-read.ensures at c.in_default.ensures)
 
 pub returns : goal.returns
-unfolding counted list_for
+unfolding said list_for unpacked_by counted tabulate
 returns c =
-    unpacks_of c.args.table.now (before (goal.at.returns c).After-version_in-version) c.judge-taken.result c.judge-taken.ensures
-    _ c.header_of-row.ensures.is _
+    let bytes = c.args.table.now in
+    let before = lists_before c.args.lists in
+    let e : accepted ≡ judged_answer bytes (room bytes before) = rw c.of-read.ensures at c.in_default.ensures in
+    counts_unpack bytes before _ _ e
+    (simp (c.counts.ensures, c.of-read.ensures))
     (λ i. record {
-      header = c.fill_header.ensures i;
-      systems = c.fill.ensures i;
-      vls = c.fill-2.ensures i;
-      streams = c.fill-3.ensures i;
-      ports = c.fill-4.ensures i;
-      hops = c.fill-5.ensures i;
+      header = header_left bytes before e _ _ c.of-read.ensures c.fill_list.ensures i;
+      systems = section_left bytes before e 0 _ _ (omega arith) c.of-read.ensures c.fill_section.ensures i;
+      vls = section_left bytes before e 1 _ _ (omega arith) c.of-read.ensures c.fill_section-2.ensures i;
+      streams = section_left bytes before e 2 _ _ (omega arith) c.of-read.ensures c.fill_section-3.ensures i;
+      ports = section_left bytes before e 3 _ _ (omega arith) c.of-read.ensures c.fill_section-4.ensures i;
+      hops = section_left bytes before e 4 _ _ (omega arith) c.of-read.ensures c.fill_section-5.ensures i;
     })

@@ -1,14 +1,13 @@
-use mathlib.Core.Path.{ap, ◌∙◌}
+use Rattle.std.proofs.Common.{arith, ap, ◌∙◌}
 use Prim.Native.Nat.{ℕ}
-use native.Mathlib.Omega.{arith}
-use lib.ListN.{replicate, length-set}
+use lib.ListN.{replicate}
 use Rattle.table.proofs.LentLaws.{cleared_more, cleared_all}
 use Rattle.writer.proofs.clear.Goals as goal
 
-pub loop-k-preserved : goal.loop-k-preserved
-loop-k-preserved c = (omega arith, simp length-set (omega arith), cleared_more _ c.loop-k.k (omega arith) c.loop-k.invariant.2)
+pub loop-byte-preserved : goal.loop-byte-preserved
+loop-byte-preserved c = cleared_more _ c.loop-byte.byte-index (omega arith) c.loop-byte.invariant
 
 pub returns : goal.returns
 returns c =
-    let l = c.loop-k in
-    cleared_all l.out l.k (omega arith) l.invariant.2 ∙ ap (λ (n : ℕ). replicate n 0) l.invariant.1
+    let l = c.loop-byte in
+    cleared_all l.out l.byte-index (omega arith) l.invariant ∙ ap (λ (n : ℕ). replicate n 0) l.auto.out

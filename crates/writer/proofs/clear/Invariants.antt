@@ -1,12 +1,8 @@
--- `writer::clear` meets its contract: after k turns the first k bytes are zero.
+-- `writer::clear` meets its contract: the bytes so far are zero.
 -- Assumes nothing.
-use mathlib.Core.Path.{◌≡◌}
-use Prim.Native.Nat.{◌-◌, ◌≤◌}
-use lib.ListN.{length, take, replicate}
+use Rattle.std.proofs.Common.{◌≡◌}
+use lib.ListN.{take, replicate}
 use Rattle.writer.proofs.clear.Given as goal
 
-abbrev pub invariant-loop-k : goal.invariant-loop-k
-invariant-loop-k l = (l.k ≤ l.n) × (length l.out ≡ l.n) × (take l.k l.out ≡ replicate l.k 0)
-
-abbrev pub decreases-loop-k : goal.decreases-loop-k
-decreases-loop-k l = l.n - l.k
+abbrev pub invariant-loop-byte : goal.invariant-loop-byte
+invariant-loop-byte l = take l.byte-index l.out ≡ replicate l.byte-index 0

@@ -1,41 +1,35 @@
--- `writer::fill` meets its contract: the header and then the lists, each where the one before ends, fill the bytes.
--- Assumes nothing.
-use mathlib.Core.Path.{◌≡◌, ap, ◌∙◌}
-use mathlib.Core.List.{List}
-use Prim.Native.Nat.{ℕ}
-use native.Mathlib.Omega.{arith}
-use lib.ListN.{length, length-replicate}
-use Rattle.table.specs.Write.{table_size}
-use Rattle.table.specs.Lists.{Lists}
-use Rattle.writer.specs.Writing.{lists, Fillable}
-use Rattle.writer.proofs.StageLaws.{ends, staged}
+use Rattle.std.proofs.Common.{◌≡◌, arith, refl, add-one}
+use Rattle.table.specs.Lent.{lists_of}
+use Rattle.table.specs.Sections.{start}
+use Rattle.writer.proofs.PutLaws.{filled_none, filled_more, filled_all, section_room}
+use Rattle.writer.proofs.fill.Goals.{After-put_section}
 use Rattle.writer.proofs.fill.Goals as goal
 
-long : (ls : Lists) (out : List ℕ) → Fillable ls out → length out ≡ table_size ls
-long ls out fillable = ap (λ (l : List ℕ). length l) fillable.clear ∙ length-replicate (table_size ls) 0
+pub loop-section-init : goal.loop-section-init
+unfolding start
+loop-section-init c = record { here = refl; put = filled_none (lists_of c.args.lists) c.args.out.now }
 
-pub put_header-at-requires : goal.put_header-at-requires
-put_header-at-requires c =
-    let a = c.args in
-    let ls = lists a.header.now a.systems.now a.vls.now a.streams.now a.ports.now a.hops.now in
-    let n = long ls a.out.now c.requires in
-    let all = ends ls in
-    (c.requires.header_list, record { inside = omega arith; short = omega (arith, c.requires.short) })
+pub put_section-requires : goal.put_section-requires
+put_section-requires c =
+    let l = c.loop-section in
+    (omega arith, section_room (lists_of c.args.lists) c.args.out.now l.out l.section l.at c.requires l.auto.out (omega arith) l.invariant.here)
 
-pub put_lists-requires : goal.put_lists-requires
-put_lists-requires c =
-    let a = c.args in
-    let ls = lists a.header.now a.systems.now a.vls.now a.streams.now a.ports.now a.hops.now in
-    let n = long ls a.out.now c.requires in
-    let all = ends ls in
-    let kept = c.put_header-at.auto.out in
-    let at = c.put_header-at.ensures.0 in
-    rw c.version_of-version.ensures (record { inside = omega arith; short = omega (arith, c.requires.short) })
+pub overflow_add-at : goal.overflow_add-at
+overflow_add-at c =
+    let l = c.loop-section in
+    let room = section_room (lists_of c.args.lists) c.args.out.now l.out l.section l.at c.requires l.auto.out (omega arith) l.invariant.here in
+    omega (arith, room.inside, room.short, c.section_bytes-at.ensures.is)
+
+pub loop-section-preserved : goal.loop-section-preserved
+unfolding start
+loop-section-preserved c =
+    let l = c.loop-section in
+    record {
+      here = rw add-one (omega (arith, l.invariant.here, c.section_bytes-at.ensures.is));
+      put = filled_more (lists_of c.args.lists) c.args.out.now l.out _ l.section l.at l.invariant.put l.invariant.here c.put_section.ensures;
+    }
 
 pub returns : goal.returns
 returns c =
-    let a = c.args in
-    let ls = lists a.header.now a.systems.now a.vls.now a.streams.now a.ports.now a.hops.now in
-    let head = c.put_header-at.ensures in
-    let laid = rw (c.version_of-version.ensures, head.0) at c.put_lists.ensures in
-    laid ∙ staged ls a.out.now c.put_header-at.new.out c.requires.clear head.1
+    let all : c.loop-section.section ≡ 6 = omega arith in
+    rw (← filled_all (lists_of c.args.lists) c.args.out.now c.requires.clear, ← all) c.loop-section.invariant.put

@@ -1,17 +1,20 @@
 -- `writer::source::header_row` meets its contract: the version, the counts and the delays stand in their order.
 -- Assumes nothing.
-use Rattle.table.specs.Lists.{list_for, records_in}
-use Rattle.writer.specs.Writing.{lists}
 use Rattle.writer.proofs.HeaderRow.{header_is}
 use Rattle.writer.proofs.source.header_row.Goals as goal
 
 pub returns : goal.returns
-unfolding records_in list_for
 returns c =
-    let a = c.args in
-    header_is (lists a.header.now a.systems.now a.vls.now a.streams.now a.ports.now a.hops.now) _ _ _ _ _
-    c.records_in.ensures
-    c.records_in-2.ensures
-    c.records_in-3.ensures
-    c.records_in-4.ensures
-    c.records_in-5.ensures
+    rw (
+      c.rows_in.ensures.is,
+      c.rows_in-2.ensures.is,
+      c.rows_in-3.ensures.is,
+      c.rows_in-4.ensures.is,
+      c.rows_in-5.ensures.is,
+      c.header_number.ensures,
+      c.header_number-2.ensures,
+      c.header_number-3.ensures,
+      c.header_number-4.ensures,
+      c.header_number-5.ensures,
+    )
+    (header_is _)

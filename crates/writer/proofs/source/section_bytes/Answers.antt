@@ -1,22 +1,20 @@
--- `writer::source::section_bytes` meets its contract: the bytes are no more than twice the numbers of the list, so they can be counted.
+-- `writer::source::section_bytes` meets its contract: the bytes of all rows are so few that they can be counted.
 -- Assumes nothing.
-use mathlib.Core.Path.{◌≡◌, ap, ap₂, ◌∙◌}
-use Prim.Native.Nat.{◌*◌, ◌≤◌}
-use native.Mathlib.Omega.{arith}
-use lib.ListN.{length}
-use Rattle.layout.specs.Layout.{kind_of, size}
-use Rattle.writer.specs.Writing.{count_in}
-use Rattle.writer.proofs.MeantLaws.{bytes_few}
+use Rattle.std.proofs.Common.{◌*◌, ◌^◌, ◌≤◌, arith}
+use Rattle.table.specs.Lent.{lists_of}
+use Rattle.table.specs.Write.{numbers_in}
+use Rattle.writer.proofs.SectionLaws.{bytes_few}
+use Rattle.writer.proofs.source.section_bytes.Goals.{After-bytes_in}
 use Rattle.writer.proofs.source.section_bytes.Goals as goal
 
-pub overflow_mul-result : goal.overflow_mul-result
-overflow_mul-result c =
-    let same : c.records_in.result * c.bytes_in.result ≡ count_in c.args.list.now c.args.section * size (kind_of c.args.version c.args.section) = ap₂ ◌*◌ c.records_in.ensures (c.bytes_in.ensures ∙ ap size c.kind_of.ensures) in
-    let few : count_in c.args.list.now c.args.section * size (kind_of c.args.version c.args.section) ≤ 2 * length c.args.list.now = bytes_few (length c.args.list.now) c.args.version c.args.section in
-    omega (arith, same, few)
+few : (c : After-bytes_in) → c.rows_in.result * c.bytes_in.result ≤ 2 ^ 61
+few c =
+    let s = c.args.section in
+    let counted : c.rows_in.result * numbers_in s ≤ 2 ^ 60 = c.rows_in.ensures.few in
+    rw (c.bytes_in.ensures, c.kind_of.ensures, c.rows_in.ensures.is) (bytes_few (lists_of c.args.lists) s (rw c.rows_in.ensures.is at counted))
 
-pub returns : goal.returns
-returns c =
-    let same : c.records_in.result * c.bytes_in.result ≡ count_in c.args.list.now c.args.section * size (kind_of c.args.version c.args.section) = ap₂ ◌*◌ c.records_in.ensures (c.bytes_in.ensures ∙ ap size c.kind_of.ensures) in
-    let few : count_in c.args.list.now c.args.section * size (kind_of c.args.version c.args.section) ≤ 2 * length c.args.list.now = bytes_few (length c.args.list.now) c.args.version c.args.section in
-    (same, rw same few)
+pub overflow_mul-result : goal.overflow_mul-result
+overflow_mul-result c = omega (arith, few c)
+
+pub returns-clause-few : goal.returns-clause-few
+returns-clause-few c = few c
