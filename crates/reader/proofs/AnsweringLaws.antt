@@ -1,18 +1,17 @@
--- From the answers of rows to those of sections and to answers 5 and 6: the first refusal that the code meets is the one that is given.
+-- From the faults of rows to the answers of sections and to answers 5 and 6: the first refusal that the code meets is the one that is given.
 -- Assumes nothing.
 use Prim.Native.Nat.{ℕ, zero, suc, ◌≤◌, ◌<◌}
-use mathlib.Core.Bool.{Bool, true, false, true≢false, false≢true, not}
+use mathlib.Core.Bool.{true, false, not}
 use mathlib.Core.List.{[], ◌∷◌}
-use mathlib.Core.Option.{Option, none, some}
-use mathlib.Core.Path.{◌≡◌, refl, sym, ap, ◌∙◌}
-use native.Mathlib.Decide.{dec_lt, ℕ_discrete}
+use mathlib.Core.Path.{◌≡◌, refl, ap, ◌∙◌}
+use native.Mathlib.Decide.{dec_lt}
 use native.Mathlib.Omega.{arith}
-use borrow.Author.Tests.{lt-ltb}
-use lib.Dec.{ltb}
 use lib.ListN.{length}
+use Rattle.std.specs.Prelude.{Option, None, Some}
+use Rattle.base.specs.Least.{least_from}
 use Rattle.base.specs.Tests.{is_some, number_or0}
 use Rattle.base.proofs.LeastLaws.{least_is, least_none}
-use Rattle.base.proofs.TestLaws.{none_is}
+use Rattle.base.proofs.TestLaws.{some_is, none_is, number_is}
 use Rattle.network.specs.Network.{Network}
 use Rattle.network.specs.Ranges.{Ranges}
 use Rattle.network.specs.References.{ref_fault, naming_rows, bad_reference, one_sample, bad_sample}
@@ -20,96 +19,67 @@ use Rattle.network.proofs.ReferenceTests.{stream_names_vl_was}
 use Rattle.network.proofs.ReferenceLaws.{stream_row_was, no_bad_row, no_bad_row_was}
 use Rattle.network.proofs.TestsAre.{rows_are}
 use Rattle.table.specs.declared.Answer.{Answer}
+use Rattle.table.specs.declared.Refusal.{Refusal}
 use Rattle.table.specs.Answers.{answer, accepted, first_given}
 use Rattle.table.specs.Read.{bad_ref_section, answer_at_reference, answer5, answer6}
-use Rattle.reader.specs.Referring.{refusal_at, row_answer, section_answer, sample_answer, Named}
+use Rattle.table.specs.Refusals.{answer_of}
+use Rattle.table.proofs.RefusalLaws.{not_accepted}
+use Rattle.reader.specs.Referring.{refusal_at, first_bad, sample_answer, Named}
 
--- ---- the rows that are tested
--- end systems and ports have none, nor has a section that does not exist
-pub none_named : (net : Network) (s : ℕ) → (s ≡ 2 → ⊥) → (s ≡ 3 → ⊥) → (s ≡ 5 → ⊥) → naming_rows net s ≡ 0
-unfolding naming_rows
-none_named net zero a b c = refl
-none_named net (suc zero) a b c = refl
-none_named net (suc (suc zero)) a b c = absurd (a refl)
-none_named net (suc (suc (suc zero))) a b c = absurd (b refl)
-none_named net (suc (suc (suc (suc zero)))) a b c = refl
-none_named net (suc (suc (suc (suc (suc zero))))) a b c = absurd (c refl)
-none_named net (suc (suc (suc (suc (suc (suc s)))))) a b c = refl
+-- ---- the first row that has a fault
+module _ (fault : ℕ → Option ℕ) (section rows : ℕ) where
+  pub first_bad_at : (i test : ℕ) → i < rows → fault i ≡ Some test → ((k : ℕ) → k < i → fault k ≡ None)
+      → answer 5 section i test ≡ first_bad fault section rows
+  unfolding first_bad
+  first_bad_at i test h e before =
+      let here : least_from (λ k. is_some (fault k)) 0 rows ≡ Some i =
+      least_is (λ k. is_some (fault k)) 0 rows i (omega arith) (omega arith) (some_is (fault i) test e) (λ k a b. none_is (fault k) (before k b)) in
+      rw (here, number_is (fault i) test e)
 
--- a row that is tested is of section 5 where it is of neither 2 nor 3
-pub last_named : (net : Network) (s i : ℕ) → i < naming_rows net s → (s ≡ 2 → ⊥) → (s ≡ 3 → ⊥) → s ≡ 5
-last_named net s i h a b = elim (ℕ_discrete s 5) [
-  | yes e ↦ e
-  | no other ↦ absurd (omega (arith, none_named net s a b other))
-]
+  pub first_bad_none : ((k : ℕ) → k < rows → fault k ≡ None) → accepted ≡ first_bad fault section rows
+  unfolding first_bad
+  first_bad_none all =
+      let here : least_from (λ k. is_some (fault k)) 0 rows ≡ None =
+      least_none (λ k. is_some (fault k)) 0 rows (λ k a b. none_is (fault k) (all k (omega arith))) in
+      rw here
 
--- ---- whether an answer refuses, of an answer that is known
-pub met : (x y : Answer) (t u : Bool) → x ≡ y → t ≡ ltb 0 x.number → t ≡ u → ltb 0 y.number ≡ u
-met x y t u e told is = ap (λ (a : Answer). ltb 0 a.number) (sym e) ∙ sym told ∙ is
+-- ---- whether a row was found, by the answer
+found_none : (o : Option ℕ) (f : ℕ → Answer) → ((i : ℕ) → 0 < (f i).number) → accepted ≡ refusal_at o f → o ≡ None
+found_none None f h e = refl
+found_none (Some i) f h e = absurd (omega (arith, h i, ap (λ (a : Answer). a.number) e))
 
-refusal_none : (o : Option ℕ) (f : ℕ → Answer) → ((i : ℕ) → 0 < (f i).number) → ltb 0 (refusal_at o f).number ≡ false → o ≡ none
-refusal_none none f h e = refl
-refusal_none (some i) f h e = absurd (true≢false (sym (lt-ltb 0 (f i).number (h i)) ∙ e))
-
-refusal_some : (o : Option ℕ) (f : ℕ → Answer) → ltb 0 (refusal_at o f).number ≡ true → (is_some o ≡ true) × (refusal_at o f ≡ f (number_or0 o))
+found_some : (o : Option ℕ) (f : ℕ → Answer) (r : Refusal) → answer_of r ≡ refusal_at o f → (is_some o ≡ true) × (answer_of r ≡ f (number_or0 o))
 unfolding is_some number_or0
-refusal_some none f e = absurd (false≢true e)
-refusal_some (some i) f e = (refl, refl)
-
--- ---- a row
-module _ (net : Network) (s i : ℕ) where
-  pub row_was_good : ltb 0 (row_answer net s i).number ≡ false → ref_fault net s i ≡ none
-  unfolding row_answer
-  row_was_good = refusal_none (ref_fault net s i) (answer 5 s i) (λ test. omega arith)
-
-  row_was_bad : ltb 0 (row_answer net s i).number ≡ true → (is_some (ref_fault net s i) ≡ true) × (row_answer net s i ≡ answer_at_reference net s i)
-  unfolding row_answer answer_at_reference
-  row_was_bad = refusal_some (ref_fault net s i) (answer 5 s i)
+found_some None f r e = absurd (not_accepted r e)
+found_some (Some i) f r e = (refl, e)
 
 -- ---- a section
 module _ (net : Network) (s : ℕ) where
-  pub section_bad : (i : ℕ) → i < naming_rows net s → ((k : ℕ) → k < i → ref_fault net s k ≡ none) → ltb 0 (row_answer net s i).number ≡ true
-      → row_answer net s i ≡ section_answer net s
-  unfolding section_answer bad_reference
-  section_bad i h before e =
-      let was = row_was_bad net s i e in
-      let here : bad_reference net s ≡ some i =
-      least_is (λ k. is_some (ref_fault net s k)) 0 (naming_rows net s) i (omega arith) (omega arith) was.0 (λ k a b. none_is (ref_fault net s k) (before k b)) in
-      was.1 ∙ rw (here, section_answer)
-
-  pub section_good : ((k : ℕ) → k < naming_rows net s → ref_fault net s k ≡ none) → accepted ≡ section_answer net s
-  unfolding section_answer
-  section_good all = rw (no_bad_row net s all, section_answer)
-
-  pub section_was_good : ltb 0 (section_answer net s).number ≡ false → bad_reference net s ≡ none
-  unfolding section_answer answer_at_reference
-  section_was_good = refusal_none (bad_reference net s) (answer_at_reference net s) (λ i. omega arith)
-
-  section_was_bad : ltb 0 (section_answer net s).number ≡ true
-      → (is_some (bad_reference net s) ≡ true) × (section_answer net s ≡ answer_at_reference net s (number_or0 (bad_reference net s)))
-  unfolding section_answer
-  section_was_bad = refusal_some (bad_reference net s) (answer_at_reference net s)
+  pub section_good : (n : ℕ) → n ≡ naming_rows net s → accepted ≡ first_bad (ref_fault net s) s n → bad_reference net s ≡ None
+  unfolding first_bad bad_reference answer_at_reference
+  section_good n all e =
+      found_none (bad_reference net s) (answer_at_reference net s) (λ i. omega arith) (e ∙ ap (first_bad (ref_fault net s) s) all)
 
 -- ---- the sections together
 module _ (net : Network) where
-  ports_name_nothing : bad_reference net 4 ≡ none
+  ports_name_nothing : bad_reference net 4 ≡ None
   ports_name_nothing = no_bad_row net 4 (λ i h. absurd (omega (arith, rows_are net 4)))
 
   -- the first section with a bad reference gives the answer
-  pub first_section : (s : ℕ) → 2 ≤ s → s < 6 → ((t : ℕ) → 2 ≤ t → t < s → bad_reference net t ≡ none) → ltb 0 (section_answer net s).number ≡ true
-      → section_answer net s ≡ first_given (answer5 net ∷ answer6 net ∷ [])
-  unfolding first_given answer5 bad_ref_section
-  first_section s low high before e =
-      let was = section_was_bad net s e in
-      let here : bad_ref_section net ≡ some s =
+  pub first_section : (s : ℕ) → 2 ≤ s → s < 6 → ((t : ℕ) → 2 ≤ t → t < s → bad_reference net t ≡ None) → (n : ℕ) → n ≡ naming_rows net s
+      → (r : Refusal) → answer_of r ≡ first_bad (ref_fault net s) s n → answer_of r ≡ first_given (answer5 net ∷ answer6 net ∷ [])
+  unfolding first_given answer5 bad_ref_section first_bad bad_reference answer_at_reference
+  first_section s low high before n all r e =
+      let was = found_some (bad_reference net s) (answer_at_reference net s) r (e ∙ ap (first_bad (ref_fault net s) s) all) in
+      let here : bad_ref_section net ≡ Some s =
       least_is (λ t. is_some (bad_reference net t)) 2 4 s low (omega arith) was.0 (λ t a b. none_is (bad_reference net t) (before t a b)) in
       was.1 ∙ rw (here, answer5)
 
-  pub before_3 : bad_reference net 2 ≡ none → (t : ℕ) → 2 ≤ t → t < 3 → bad_reference net t ≡ none
+  pub before_3 : bad_reference net 2 ≡ None → (t : ℕ) → 2 ≤ t → t < 3 → bad_reference net t ≡ None
   before_3 e2 t a b = let e : t ≡ 2 = omega arith in rw e e2
 
-  module _ (e2 : bad_reference net 2 ≡ none) (e3 : bad_reference net 3 ≡ none) where
-    pub before_5 : (t : ℕ) → 2 ≤ t → t < 5 → bad_reference net t ≡ none
+  module _ (e2 : bad_reference net 2 ≡ None) (e3 : bad_reference net 3 ≡ None) where
+    pub before_5 : (t : ℕ) → 2 ≤ t → t < 5 → bad_reference net t ≡ None
     before_5 zero a b = absurd (omega arith)
     before_5 (suc zero) a b = absurd (omega arith)
     before_5 (suc (suc zero)) a b = e2
@@ -117,17 +87,17 @@ module _ (net : Network) where
     before_5 (suc (suc (suc (suc zero)))) a b = ports_name_nothing
     before_5 (suc (suc (suc (suc (suc t))))) a b = absurd (omega arith)
 
-    module _ (e5 : bad_reference net 5 ≡ none) where
-      all_sections : (t : ℕ) → 2 ≤ t → t < 6 → bad_reference net t ≡ none
+    module _ (e5 : bad_reference net 5 ≡ None) where
+      all_sections : (t : ℕ) → 2 ≤ t → t < 6 → bad_reference net t ≡ None
       all_sections t a b = elim (dec_lt t 5) [
         | yes l ↦ before_5 t a l
         | no n ↦ let e : t ≡ 5 = omega arith in rw e e5
       ]
 
-      pub no_answer5 : answer5 net ≡ none
+      no_answer5 : answer5 net ≡ None
       unfolding answer5 bad_ref_section
       no_answer5 =
-          let here : bad_ref_section net ≡ none = least_none (λ t. is_some (bad_reference net t)) 2 4 (λ t a b. none_is (bad_reference net t) (all_sections t a (omega arith))) in
+          let here : bad_ref_section net ≡ None = least_none (λ t. is_some (bad_reference net t)) 2 4 (λ t a b. none_is (bad_reference net t) (all_sections t a (omega arith))) in
           rw (here, answer5)
 
       pub samples_answer : sample_answer net ≡ first_given (answer5 net ∷ answer6 net ∷ [])
@@ -135,8 +105,8 @@ module _ (net : Network) where
       samples_answer = rw no_answer5 (go (bad_sample net) refl)
         where
           go : (o : Option ℕ) → bad_sample net ≡ o → sample_answer net ≡ first_given (answer6 net ∷ [])
-          go none e = rw (e, sample_answer, answer6)
-          go (some s) e = rw (e, sample_answer, answer6)
+          go None e = rw (e, sample_answer, answer6)
+          go (Some s) e = rw (e, sample_answer, answer6)
 
 -- ---- samples
 module _ (net : Network) where
@@ -144,18 +114,18 @@ module _ (net : Network) where
       → answer 6 3 s 0 ≡ sample_answer net
   unfolding sample_answer bad_sample
   sample_bad s h before e =
-      let here : bad_sample net ≡ some s =
+      let here : bad_sample net ≡ Some s =
       least_is (λ k. not (one_sample net k)) 0 (length net.streams) s (omega arith) (omega arith) (ap not e) (λ k a b. ap not (before k b)) in
       rw (here, sample_answer)
 
   pub samples_good : ((k : ℕ) → k < length net.streams → one_sample net k ≡ true) → accepted ≡ sample_answer net
   unfolding sample_answer bad_sample
   samples_good all =
-      let here : bad_sample net ≡ none = least_none (λ k. not (one_sample net k)) 0 (length net.streams) (λ k a b. ap not (all k (omega arith))) in
+      let here : bad_sample net ≡ None = least_none (λ k. not (one_sample net k)) 0 (length net.streams) (λ k a b. ap not (all k (omega arith))) in
       rw (here, sample_answer)
 
 -- where no stream has a bad reference each names a VL
-pub named_from : (net : Network) → Ranges net → bad_reference net 3 ≡ none → Named net
+pub named_from : (net : Network) → Ranges net → bad_reference net 3 ≡ None → Named net
 named_from net ranges e = record {
   ranges = ranges;
   vl = λ s h.

@@ -1,94 +1,55 @@
--- The sheet is filled from the front: behind the header's numbers and the counts, each section's records and zeros up to its capacity. So it is the sheet of the table's lists, and the network on it is the table's.
--- Assumes nothing.
-use Prim.Native.Nat.{ℕ, zero, suc, ◌+◌, ◌-◌, ◌*◌, ◌/◌, ◌%◌, ◌≤◌, ◌<◌}
-use mathlib.Core.Bool.{true, false}
-use mathlib.Core.List.{List, [], ◌∷◌, ◌++◌, append_assoc}
+-- A sheet of zeros is filled from a table that 1 to 4 are not given to: each section's records stand at the front of its list, and zeros behind them. So it
+-- is the sheet of the table's lists, and the network on it the table's. Assumes nothing.
+use Prim.Native.Nat.{ℕ, zero, suc, ◌-◌, ◌+◌, ◌*◌, ◌/◌, ◌%◌, ◌≤◌, ◌<◌}
+use mathlib.Core.List.{List, [], ◌∷◌, ◌++◌}
 use mathlib.Core.Path.{◌≡◌, refl, sym, ap, ap₂, ◌∙◌}
 use native.Mathlib.Nat.{le-div_iff_mul-le, mul-le-mul_right}
 use native.Mathlib.Omega.{arith}
-use borrow.Author.Tests.{ltb-true, ltb-false, eq-eqb, ne_eqb}
-use lib.Dec.{ltb}
-use lib.ListN.{length, get_or, take, drop, replicate, length-append, replicate-append-replicate}
-use lib.Seq.{get_or-take, get_or-drop, take_at, drop-append-add}
-use Rattle.base.specs.Tabulate.{tabulate}
-use Rattle.base.proofs.TabulateLaws.{tabulate_at}
+use borrow.Author.Tests.{eq-eqb, ne_eqb}
+use lib.ListN.{length, get_or, take, drop, replicate, length-replicate}
+use lib.Seq.{get_or-take, get_or-drop, length-take-le}
 use Rattle.base.proofs.Tests.{within_yes}
+use Rattle.layout.specs.Limits.{limits, most}
 use Rattle.layout.specs.Names.{number_of, index_in}
 use Rattle.layout.specs.Rows.{named, listed}
 use Rattle.layout.specs.Layout.{layout_in, header_names}
-use Rattle.layout.specs.Sizes.{capacity, place}
-use Rattle.layout.proofs.LayoutLaws.{listed_is}
-use Rattle.layout.proofs.SizeLaws.{place_le}
+use Rattle.layout.specs.Sizes.{capacity}
+use Rattle.layout.proofs.LayoutLaws.{listed_is, listed_some}
 use Rattle.layout.proofs.PlainLaws.{PlainVl}
+use Rattle.layout.proofs.SizeLaws.{most_are}
 use Rattle.network.specs.Network.{Network}
 use Rattle.network.specs.Ranges.{Ranges}
 use Rattle.table.specs.declared.Answer.{Answer}
+use Rattle.table.specs.declared.Counts.{Counts}
+use Rattle.table.specs.declared.Refusal.{Refusal}
 use Rattle.table.specs.Answers.{accepted, first_given}
 use Rattle.table.specs.Sections.{rows, records, lent}
 use Rattle.table.specs.Lists.{list_for, records_in, record_at, header_of, unpacked}
 use Rattle.table.specs.Read.{network_in, answer5, answer6, read_answer}
+use Rattle.table.specs.Refusals.{answer_of}
 use Rattle.table.proofs.AnswerLaws.{Sound}
-use Rattle.table.proofs.LentLaws.{length_lent, lent_whole}
-use Rattle.table.proofs.SectionLaws.{length_records}
-use Rattle.table.proofs.HeaderLaws.{five}
-use Rattle.layout.proofs.LayoutLaws.{listed_some}
-use Rattle.table.proofs.UnpackLaws.{list_is, length_list, length_header}
-use Rattle.table.proofs.ReadingLaws.{few, own_refused, own_accepted}
 use Rattle.table.proofs.HeldLaws.{vl_row}
+use Rattle.table.proofs.LentLaws.{lent_whole}
+use Rattle.table.proofs.ReadingLaws.{few, own_refused, own_accepted}
 use Rattle.table.proofs.ReadLaws.{count_read, record_read, read_references, read_sound, sound_ranges, read_ranges}
-use Rattle.unpacker.specs.Unpacking.{table_answer, fitting}
-use Rattle.sheet.specs.Sheet.{read_as, network_on, Good, block, blocks, sheet_of}
+use Rattle.table.proofs.RefusalLaws.{refused_number}
+use Rattle.table.proofs.SectionLaws.{length_records}
+use Rattle.table.proofs.UnpackLaws.{list_is, length_list, length_header}
+use Rattle.unpacker.specs.Unpacking.{counts_in, table_answer, fitting}
+use Rattle.sheet.specs.declared.Sheet.{Sheet}
+use Rattle.sheet.specs.Sheet.{count_for, read_as, network_on, Good, sheet_of, blank}
+use Rattle.sheet.proofs.ReadBack.{Held, network_same}
 use Rattle.reader.specs.Reading.{read_sheet}
-use Rattle.sheet.proofs.BlockLaws.{Held, length_blocks, network_same}
 
--- ---- zeros, and a list that is lent behind a front
+-- ---- zeros
 drop_zeros : (k n : ℕ) → drop k (replicate {A = ℕ} n 0) ≡ replicate (n - k) 0
 drop_zeros zero n = let e : n ≡ n - 0 = omega arith in ap (λ (m : ℕ). replicate m 0) e
 drop_zeros (suc k) zero = let e : 0 ≡ 0 - suc k = omega arith in ap (λ (m : ℕ). replicate m 0) e
 drop_zeros (suc k) (suc n) = let e : n - k ≡ suc n - suc k = omega arith in drop_zeros k n ∙ ap (λ (m : ℕ). replicate m 0) e
 
-lent_behind : (n c : ℕ) (front xs : List ℕ) → length xs ≤ c → length front + c ≤ n → front ++ lent (n - length front) xs ≡ lent n (front ++ lent c xs)
-unfolding lent
-lent_behind n c front xs h l =
-    let zeros = replicate {A = ℕ} (n - length (front ++ lent c xs)) 0 in
-    let e : c - length xs + (n - length (front ++ lent c xs)) ≡ n - length front - length xs = omega (arith, length-append front (lent c xs), length_lent c xs h) in
-    sym
-    (append_assoc front (lent c xs) zeros
-    ∙ ap (λ (r : List ℕ). front ++ r)
-    (append_assoc xs (replicate (c - length xs) 0) zeros ∙ ap (λ (r : List ℕ). xs ++ r) (replicate-append-replicate (c - length xs) (n - length (front ++ lent c xs)) 0 ∙ ap (λ (m : ℕ). replicate m 0) e)))
-
--- ---- the header's numbers and the counts
-pub count_at : (bytes n : List ℕ) → n ≡ tabulate (rows bytes) 6 → (s : ℕ) → s < 6 → get_or n s 0 ≡ rows bytes s
-count_at bytes n e s h = ap (λ (l : List ℕ). get_or l s 0) e ∙ tabulate_at (rows bytes) 6 s 0 h
-
-pub head_is : (bytes d n : List ℕ) → d ≡ header_of bytes → n ≡ tabulate (rows bytes) 6
-    → get_or d 0 0 ∷ get_or d 1 0 ∷ get_or d 2 0 ∷ get_or d 3 0 ∷ get_or d 4 0 ∷ get_or n 1 0 ∷ get_or n 2 0 ∷ get_or n 3 0 ∷ get_or n 4 0 ∷ get_or n 5 0 ∷ [] ≡ block (unpacked bytes) 0
-unfolding block unpacked
-head_is bytes d n e f =
-    let count : (s : ℕ) → suc s < 6 → get_or n (suc s) 0 ≡ records_in (unpacked bytes) (suc s) = λ s h. count_at bytes n f (suc s) h ∙ sym (count_read bytes s h) in
-    let counts =
-    records_in (unpacked bytes) 1 ∷ records_in (unpacked bytes) 2 ∷ records_in (unpacked bytes) 3 ∷ records_in (unpacked bytes) 4 ∷ records_in (unpacked bytes) 5 ∷ [] in
-    rw (count 0 (omega arith), count 1 (omega arith), count 2 (omega arith), count 3 (omega arith), count 4 (omega arith), e)
-    (ap (λ (l : List ℕ). l ++ counts) (five (header_of bytes) (length_header bytes)))
-
--- ---- a table that 1 to 4 are not given to
-pub own_sound : (bytes : List ℕ) → (table_answer bytes).number ≡ 0 → Sound bytes
-unfolding table_answer
-own_sound bytes e = (own_accepted bytes e).0
-
+-- ---- a table that 1 to 4 are not given to: its lists are such that a sheet has room for them, and the network on their sheet is the table's
 module _ (bytes : List ℕ) (sound : Sound bytes) where
-  -- ---- all records of a section fit
-  all_fit : (s room : ℕ) → suc s < 6 → rows bytes (suc s) * listed (suc s) ≤ room → fitting bytes (suc s) room ≡ rows bytes (suc s)
-  unfolding fitting
-  all_fit s room h l =
-      let fits : rows bytes (suc s) ≤ room / listed (suc s) = (le-div_iff_mul-le {k = listed (suc s)} (listed_some (suc s) h)).1 l in
-      rw (within_yes 1 5 (suc s) (omega arith, omega arith)) (omega (arith, fits))
-
-  header_whole : length (unpacked bytes).header ≡ length header_names
-  unfolding unpacked
-  header_whole = length_header bytes
-
-  -- ---- the numbers of a VL are small
+  -- the numbers of a VL are small
   below : (vs : List ℕ) → PlainVl vs → (j : ℕ) → j < 4 → get_or vs j 0 < 65536
   unfolding named index_in number_of layout_in
   below vs p zero h = omega (arith, p.end_system_lem)
@@ -111,8 +72,11 @@ module _ (bytes : List ℕ) (sound : Sound bytes) where
       omega (arith, here, record_read bytes 1 (k / 4) (k % 4) h row (omega arith), below _ (vl_row bytes sound (k / 4) row) (k % 4) (omega arith))
   small (suc (suc s)) k h l = rw (ne_eqb (suc (suc (suc s))) 2 (λ e. omega arith))
 
-  -- ---- so the network on the sheet is the table's
-  pub held : Held (unpacked bytes)
+  header_whole : length (unpacked bytes).header ≡ length header_names
+  unfolding unpacked
+  header_whole = length_header bytes
+
+  held : Held (unpacked bytes)
   held = record {
     header = header_whole;
     whole = λ s h. length_list bytes s h ∙ ap (λ (n : ℕ). n * listed (suc s)) (sym (count_read bytes s h));
@@ -124,126 +88,123 @@ module _ (bytes : List ℕ) (sound : Sound bytes) where
   unfolding network_in
   network_read = network_same (unpacked bytes) held
 
--- ---- the steps of filling: the sheet holds the blocks before a section's, and zeros
-pub record Filled (bytes counts : List ℕ) (k : ℕ) (sheet : List ℕ) : Type 0 where
-  pub accepts : (table_answer bytes).number ≡ 0
-  pub counted : counts ≡ tabulate (rows bytes) 6
-  pub holds : sheet ≡ lent (place 6) (blocks (unpacked bytes) (suc k))
+-- ---- the sheet is filled, list by list
+counts_at : (bytes : List ℕ) (s : ℕ) → suc s < 6 → count_for (counts_in bytes) (suc s) ≡ rows bytes (suc s)
+unfolding count_for
+counts_at bytes zero h = refl
+counts_at bytes (suc zero) h = refl
+counts_at bytes (suc (suc zero)) h = refl
+counts_at bytes (suc (suc (suc zero))) h = refl
+counts_at bytes (suc (suc (suc (suc zero)))) h = refl
+counts_at bytes (suc (suc (suc (suc (suc s))))) h = absurd (omega arith)
 
-pub head_put : (bytes counts s t head : List ℕ) → (table_answer bytes).number ≡ 0 → counts ≡ tabulate (rows bytes) 6 → s ≡ replicate (place 6) 0
-    → head ≡ block (unpacked bytes) 0 → t ≡ head ++ drop (length head) s → Filled bytes counts 0 t
-unfolding blocks lent
-head_put bytes counts s t head given is zeros front e = record {
-  accepts = given;
-  counted = is;
-  holds = e ∙ ap (λ (r : List ℕ). head ++ r) (ap (drop (length head)) zeros ∙ drop_zeros (length head) (place 6)) ∙ ap (lent (place 6)) front;
+module _ (bytes : List ℕ) (own : (table_answer bytes).number ≡ 0) where
+  pub own_sound : Sound bytes
+  unfolding table_answer
+  own_sound = (own_accepted bytes own).0
+
+  module _ (counts : Counts) (counted : counts ≡ counts_in bytes) (s : ℕ) (h : suc s < 6) where
+    count_at : count_for counts (suc s) ≡ rows bytes (suc s)
+    count_at = ap (λ (n : Counts). count_for n (suc s)) counted ∙ counts_at bytes s h
+
+    pub count_put : count_for counts (suc s) ≡ records_in (unpacked bytes) (suc s)
+    count_put = count_at ∙ sym (count_read bytes s h)
+
+    -- the records of a section have room in its list
+    few_put : count_for counts (suc s) ≤ most (suc s)
+    few_put = omega (arith, count_at, few bytes own_sound.header s h)
+
+    -- a section's records at the front of its list, and the zeros that stand behind them
+    module _ (m : ℕ) (of-m : listed (suc s) ≡ m) (old : List ℕ) (zeros : old ≡ replicate (capacity (suc s)) 0) where
+      abbrev size : ℕ
+      size = count_for counts (suc s) * m
+
+      abbrev xs : List ℕ
+      xs = records bytes (suc s) (rows bytes (suc s))
+
+      size_is : rows bytes (suc s) * listed (suc s) ≡ size
+      size_is = ap₂ (λ (i j : ℕ). i * j) (sym count_at) of-m
+
+      sized : length xs ≡ size
+      sized = length_records bytes (suc s) (rows bytes (suc s)) ∙ size_is
+
+      all_fit : fitting bytes (suc s) size ≡ rows bytes (suc s)
+      unfolding fitting
+      all_fit =
+          let fits : rows bytes (suc s) ≤ size / listed (suc s) = (le-div_iff_mul-le {k = listed (suc s)} (listed_some (suc s) h)).1 (omega (arith, size_is)) in
+          rw (within_yes 1 5 (suc s) (omega arith, omega arith)) (omega (arith, fits))
+
+      lent_room : length (take size old) ≡ size
+      unfolding capacity
+      lent_room = length-take-le size old
+          (omega (arith, size_is, ap length zeros, length-replicate {A = ℕ} (capacity (suc s)) 0, mul-le-mul_right (listed (suc s)) (few bytes own_sound.header s h)))
+
+      pub section_put : (part : List ℕ) → part ≡ lent (length (take size old)) (records bytes (suc s) (fitting bytes (suc s) (length (take size old))))
+          → part ++ drop size old ≡ lent (capacity (suc s)) (list_for (unpacked bytes) (suc s))
+      unfolding lent
+      section_put part is =
+          let filled : part ≡ xs =
+          is
+          ∙ ap (λ (k : ℕ). lent k (records bytes (suc s) (fitting bytes (suc s) k))) lent_room
+          ∙ ap (λ (k : ℕ). lent size (records bytes (suc s) k)) all_fit
+          ∙ lent_whole size xs (omega (arith, sized)) in
+          let rest : drop size old ≡ replicate (capacity (suc s) - length xs) 0 =
+          ap (drop size) zeros ∙ drop_zeros size (capacity (suc s)) ∙ ap (λ (k : ℕ). replicate (capacity (suc s) - k) 0) (sym sized) in
+          (λ i. filled i ++ rest i) ∙ ap (lent (capacity (suc s))) (sym (list_is bytes (suc s) h))
+
+-- so the counts are in the limits
+pub record FewCounts (counts : Counts) : Type 0 where
+  pub systems : counts.systems ≤ limits.systems
+  pub vls : counts.vls ≤ limits.vls
+  pub streams : counts.streams ≤ limits.streams
+  pub ports : counts.ports ≤ limits.ports
+  pub hops : counts.hops ≤ limits.hops
+
+pub few_counts : (bytes : List ℕ) → (table_answer bytes).number ≡ 0 → (counts : Counts) → counts ≡ counts_in bytes → FewCounts counts
+unfolding count_for
+few_counts bytes own counts counted = record {
+  systems = omega (arith, few_put bytes own counts counted 0 (omega arith), most_are.systems);
+  vls = omega (arith, few_put bytes own counts counted 1 (omega arith), most_are.vls);
+  streams = omega (arith, few_put bytes own counts counted 2 (omega arith), most_are.streams);
+  ports = omega (arith, few_put bytes own counts counted 3 (omega arith), most_are.ports);
+  hops = omega (arith, few_put bytes own counts counted 4 (omega arith), most_are.hops);
 }
 
--- a section's records, from its place on
-module _ {bytes counts s : List ℕ} {k : ℕ} (before : Filled bytes counts k s) (h : suc k < 6) {a m : ℕ} (at : place (suc k) ≡ a) (of-m : listed (suc k) ≡ m) where
-  abbrev front : List ℕ
-  front = blocks (unpacked bytes) (suc k)
-
-  abbrev xs : List ℕ
-  xs = records bytes (suc k) (rows bytes (suc k))
-
-  abbrev size : ℕ
-  size = get_or counts (suc k) 0 * m
-
-  sound : Sound bytes
-  sound = own_sound bytes before.accepts
-
-  long : length front ≡ a
-  long = length_blocks (unpacked bytes) (held bytes sound) (suc k) (omega arith) ∙ at
-
-  size_is : rows bytes (suc k) * listed (suc k) ≡ size
-  size_is = ap₂ (λ (i j : ℕ). i * j) (sym (count_at bytes counts before.counted (suc k) h)) of-m
-
-  sized : length xs ≡ size
-  sized = length_records bytes (suc k) (rows bytes (suc k)) ∙ size_is
-
-  fits : (length xs ≤ capacity (suc k)) × (a + capacity (suc k) ≤ place 6)
-  unfolding capacity place
-  fits =
-      (omega (arith, length_records bytes (suc k) (rows bytes (suc k)), mul-le-mul_right (listed (suc k)) (few bytes sound.header k h)), omega (arith, place_le (suc (suc k)) 6 h))
-
-  pub section_room : a + size ≤ length s
-  section_room = omega (arith, fits, sized, ap length before.holds, length_lent (place 6) front (omega (arith, fits, long)))
-
-  pub section_put : (t : List ℕ) → t ≡ take a s ++ (lent size (records bytes (suc k) (fitting bytes (suc k) size)) ++ drop (a + size) s) → Filled bytes counts (suc k) t
-  unfolding blocks block lent
-  section_put t e =
-      let zeros = replicate {A = ℕ} (place 6 - length front) 0 in
-      let part : lent size (records bytes (suc k) (fitting bytes (suc k) size)) ≡ xs =
-      ap (λ (i : ℕ). lent size (records bytes (suc k) i)) (all_fit bytes sound k size h (omega (arith, size_is))) ∙ lent_whole size xs (omega (arith, sized)) in
-      let rest : drop (a + size) s ≡ replicate (place 6 - length front - length xs) 0 =
-      ap₂ (λ (i : ℕ) (l : List ℕ). drop (i + size) l) (sym long) before.holds
-      ∙ drop-append-add front zeros size
-      ∙ drop_zeros size (place 6 - length front)
-      ∙ ap (λ (i : ℕ). replicate (place 6 - length front - i) 0) (sym sized) in
-      let kept : take a s ≡ front = ap (take a) before.holds ∙ take_at front zeros a long in
-      record {
-        accepts = before.accepts;
-        counted = before.counted;
-        holds =
-            e
-            ∙ (λ i. kept i ++ (part i ++ rest i))
-            ∙ lent_behind (place 6) (capacity (suc k)) front xs fits.0 (omega (arith, fits, long))
-            ∙ ap (λ (r : List ℕ). lent (place 6) (front ++ lent (capacity (suc k)) r)) (sym (list_is bytes (suc k) h));
-      }
-
-pub all_put : {bytes counts t : List ℕ} → Filled bytes counts 5 t → t ≡ sheet_of (unpacked bytes)
-unfolding sheet_of
-all_put {bytes} done =
-    done.holds
-    ∙ lent_whole (place 6) (blocks (unpacked bytes) 6) (omega (arith, length_blocks (unpacked bytes) (held bytes (own_sound bytes done.accepts)) 6 (omega arith)))
+pub header_put : (bytes : List ℕ) → header_of bytes ≡ lent (length header_names) (unpacked bytes).header
+unfolding unpacked
+header_put bytes = sym (lent_whole (length header_names) (header_of bytes) (omega (arith, length_header bytes)))
 
 -- ---- the answer and the sheet that is left
-no_number : (n : ℕ) → ltb 0 n ≡ false → n ≡ 0
-no_number n e = omega (arith, ltb-false 0 n e)
-
-pub zeros_left : (bytes out : List ℕ) → 0 < (read_answer bytes).number → out ≡ replicate (place 6) 0 → out ≡ read_sheet bytes
-unfolding read_sheet
-zeros_left bytes out h e = rw (ne_eqb (read_answer bytes).number 0 (λ z. omega arith)) e
-
-pub refused_read : (bytes out : List ℕ) (a : Answer) → a ≡ table_answer bytes → ltb 0 a.number ≡ true → out ≡ replicate (place 6) 0
-    → (a ≡ read_answer bytes) × (out ≡ read_sheet bytes)
+pub refused_answer : (bytes : List ℕ) (r : Refusal) → answer_of r ≡ table_answer bytes → answer_of r ≡ read_answer bytes
 unfolding table_answer
-refused_read bytes out a e t zeros =
-    let more = ltb-true 0 a.number t in
-    let is = e ∙ own_refused bytes (rw e at more) in
-    (is, zeros_left bytes out (rw is at more) zeros)
+refused_answer bytes r e = e ∙ own_refused bytes (omega (arith, refused_number r, ap (λ (a : Answer). a.number) e))
 
-pub none_given : (bytes : List ℕ) (a : Answer) → a ≡ table_answer bytes → ltb 0 a.number ≡ false → (table_answer bytes).number ≡ 0
-none_given bytes a e t = ap (λ (x : Answer). x.number) (sym e) ∙ no_number a.number t
+pub blank_left : (bytes : List ℕ) (r : Refusal) → answer_of r ≡ read_answer bytes → blank ≡ read_sheet bytes
+unfolding read_sheet
+blank_left bytes r e = rw (ne_eqb (read_answer bytes).number 0 (λ z. omega (arith, refused_number r, ap (λ (a : Answer). a.number) e)))
 
-module _ (bytes sheet : List ℕ) (accepts : (table_answer bytes).number ≡ 0) (filled : sheet ≡ sheet_of (unpacked bytes)) where
+pub none_given_lem : (bytes : List ℕ) → accepted ≡ table_answer bytes → (table_answer bytes).number ≡ 0
+none_given_lem bytes e = ap (λ (a : Answer). a.number) (sym e)
+
+-- ---- the references are tested on a sheet that was filled
+module _ (bytes : List ℕ) (sheet : Sheet) (own : (table_answer bytes).number ≡ 0) (filled : sheet ≡ sheet_of (unpacked bytes)) where
+  same_network : network_on sheet ≡ network_in bytes
+  same_network = ap network_on filled ∙ network_read bytes (own_sound bytes own)
+
   pub sheet_ranges : Ranges (network_on sheet)
-  sheet_ranges = let sound = own_sound bytes accepts in rw (filled, network_read bytes sound) (sound_ranges bytes sound)
+  sheet_ranges = rw same_network (sound_ranges bytes (own_sound bytes own))
 
-  pub answer_is : (b : Answer) → b ≡ first_given (answer5 (network_on sheet) ∷ answer6 (network_on sheet) ∷ []) → b ≡ read_answer bytes
-  unfolding table_answer
-  answer_is b e =
-      let same : network_on sheet ≡ network_in bytes = ap network_on filled ∙ network_read bytes (own_sound bytes accepts) in
-      e ∙ ap (λ (net : Network). first_given (answer5 net ∷ answer6 net ∷ [])) same ∙ sym (own_accepted bytes accepts).1
+  module _ (a : Answer) (is : a ≡ first_given (answer5 (network_on sheet) ∷ answer6 (network_on sheet) ∷ [])) where
+    pub answer_is : a ≡ read_answer bytes
+    unfolding table_answer
+    answer_is = is ∙ ap (λ (net : Network). first_given (answer5 net ∷ answer6 net ∷ [])) same_network ∙ sym (own_accepted bytes own).1
 
-  pub refused_left : (out : List ℕ) (b : Answer) → b ≡ first_given (answer5 (network_on sheet) ∷ answer6 (network_on sheet) ∷ []) → ltb 0 b.number ≡ true
-      → out ≡ replicate (length sheet) 0 → (b ≡ read_answer bytes) × (out ≡ read_sheet bytes)
-  unfolding sheet_of
-  refused_left out b e t zeros =
-      let is = answer_is b e in
-      let long = ap length filled ∙ length_blocks (unpacked bytes) (held bytes (own_sound bytes accepts)) 6 (omega arith) in
-      (is, zeros_left bytes out (rw is at (ltb-true 0 b.number t)) (zeros ∙ ap (λ (n : ℕ). replicate n 0) long))
-
-  pub accepted_left : (b : Answer) → b ≡ first_given (answer5 (network_on sheet) ∷ answer6 (network_on sheet) ∷ []) → ltb 0 b.number ≡ false
-      → (b ≡ read_answer bytes) × (sheet ≡ read_sheet bytes)
-  unfolding read_sheet
-  accepted_left b e t =
-      let is = answer_is b e in
-      (is, rw (eq-eqb (read_answer bytes).number 0 (ap (λ (x : Answer). x.number) (sym is) ∙ no_number b.number t)) filled)
+    pub sheet_is : a ≡ accepted → sheet ≡ read_sheet bytes
+    unfolding read_sheet
+    sheet_is e = filled ∙ sym (rw (eq-eqb (read_answer bytes).number 0 (ap (λ (x : Answer). x.number) (sym answer_is ∙ e))))
 
 -- ---- the sheet of an accepted table
-pub good_sheet : (bytes sheet : List ℕ) → read_answer bytes ≡ accepted → sheet ≡ read_sheet bytes → (network_on sheet ≡ network_in bytes) × Good sheet
+pub good_sheet : (bytes : List ℕ) (sheet : Sheet) → read_answer bytes ≡ accepted → sheet ≡ read_sheet bytes → (network_on sheet ≡ network_in bytes) × Good sheet
 unfolding read_sheet
 good_sheet bytes sheet e is =
     let filled : sheet ≡ sheet_of (unpacked bytes) = is ∙ rw (eq-eqb (read_answer bytes).number 0 (ap (λ (x : Answer). x.number) e)) in

@@ -4,7 +4,7 @@ use Prim.Native.Nat.{ℕ, suc, ◌+◌, ◌≤◌, ◌<◌}
 use mathlib.Core.Bool.{Bool, true, false, not}
 use mathlib.Core.List.{List}
 use mathlib.Core.Logic.{⊎_elim}
-use mathlib.Core.Option.{Option, none, some}
+use Rattle.std.specs.Prelude.{Option, None, Some}
 use mathlib.Core.Path.{◌≡◌, refl, sym, ap, ◌∙◌}
 use native.Mathlib.Decide.{ℕ_discrete}
 use native.Mathlib.Nat.{eq-or-lt_of_le}
@@ -20,9 +20,9 @@ use Rattle.base.proofs.TestLaws.{some_is}
 use Rattle.layout.specs.Limits.{limits}
 use Rattle.layout.proofs.SizeLaws.{most_are}
 use Rattle.network.specs.declared.Hop.{Hop}
-use Rattle.network.specs.declared.Parent.{Parent}
-use Rattle.network.specs.Network.{Network, parent_in, parent_at}
+use Rattle.network.specs.Network.{Network, parent_at}
 use Rattle.network.specs.Views.{is_parent, leaf}
+use Rattle.sheet.specs.declared.Sheet.{Sheet}
 use Rattle.sheet.specs.Sheet.{network_on}
 use Rattle.sheet.specs.Walks.{hop_row, leaves_on}
 use Rattle.sheet.proofs.WalkLaws.{hop_row_lem}
@@ -37,18 +37,18 @@ least_more_miss : (p : ℕ → Bool) (n : ℕ) → p n ≡ false → least_from 
 least_more_miss p n here = go (least_from p 0 n) refl
   where
     go : (o : Option ℕ) → least_from p 0 n ≡ o → least_from p 0 (n + 1) ≡ o
-    go none e = least_none p 0 (n + 1)
+    go None e = least_none p 0 (n + 1)
         (λ i a b. ⊎_elim
         (λ (s : suc i ≡ n + 1). let same : i ≡ n = omega arith in ap p same ∙ here)
         (λ (l : suc i < n + 1). none_was p 0 n i e a (omega arith))
         (eq-or-lt_of_le (omega arith)))
-    go (some j) e = let r = least_was p 0 n j e in least_is p 0 (n + 1) j r.low (omega (arith, r.high)) r.passes r.fails
+    go (Some j) e = let r = least_was p 0 n j e in least_is p 0 (n + 1) j r.low (omega (arith, r.high)) r.passes r.fails
 
 -- the parent of a hop that was read in a walk
-pub parent_walked : (sheet : List ℕ) (h : ℕ) → h < length (network_on sheet).hops → {r : Hop} {x : Parent} → r ≡ hop_row sheet h → r.parent ≡ x
-    → parent_at (network_on sheet) h ≡ parent_in x
+pub parent_walked : (sheet : Sheet) (h : ℕ) → h < length (network_on sheet).hops → {r : Hop} {x : Option ℕ} → r ≡ hop_row sheet h → r.parent ≡ x
+    → parent_at (network_on sheet) h ≡ x
 parent_walked sheet h row is e =
-    ap (λ (r : Hop). parent_in r.parent) (sym (is ∙ hop_row_lem sheet h row)) ∙ ap parent_in e
+    ap (λ (r : Hop). r.parent) (sym (is ∙ hop_row_lem sheet h row)) ∙ e
 
 module _ (net : Network) where
   -- whether hop h is the parent of one of the first n hops
@@ -73,11 +73,11 @@ module _ (net : Network) where
           ∙ ap (λ (o : Option ℕ). not (is_some o)) (sym (least_more_miss (λ g. is_parent h (parent_at net g)) n (miss h l)));
     }
 
-    pub leaves_at_root : parent_at net n ≡ none → LeavesTo (n + 1) leaves
+    pub leaves_at_root : parent_at net n ≡ None → LeavesTo (n + 1) leaves
     unfolding is_parent
     leaves_at_root e = same_leaves (λ h l. ap (is_parent h) e)
 
-    module _ (g : ℕ) (e : parent_at net n ≡ some g) where
+    module _ (g : ℕ) (e : parent_at net n ≡ Some g) where
       pub leaves_at_far : limits.hops ≤ g → LeavesTo (n + 1) leaves
       unfolding is_parent
       leaves_at_far far = same_leaves (λ h l. ap (is_parent h) e ∙ ne_eqb g h (λ s. omega arith))
@@ -100,7 +100,7 @@ module _ (net : Network) where
         ];
       }
 
-pub leaves_all : (sheet : List ℕ) (n : ℕ) (leaves : List Bool) → n ≡ length (network_on sheet).hops → LeavesTo (network_on sheet) n leaves → leaves ≡ leaves_on sheet
+pub leaves_all : (sheet : Sheet) (n : ℕ) (leaves : List Bool) → n ≡ length (network_on sheet).hops → LeavesTo (network_on sheet) n leaves → leaves ≡ leaves_on sheet
 unfolding leaves_on leaf
 leaves_all sheet n leaves e all =
     sym (tabulate_rows leaves false)
@@ -108,7 +108,7 @@ leaves_all sheet n leaves e all =
     (λ h l. all.leaf_is h l ∙ ap (λ (m : ℕ). not (is_parent_below (network_on sheet) m h)) e))
 
 -- a leaf as it is read
-pub leaf_read : (sheet : List ℕ) (leaves : List Bool) (h : ℕ) → leaves ≡ leaves_on sheet → h < limits.hops → get_or leaves h false ≡ leaf (network_on sheet) h
+pub leaf_read : (sheet : Sheet) (leaves : List Bool) (h : ℕ) → leaves ≡ leaves_on sheet → h < limits.hops → get_or leaves h false ≡ leaf (network_on sheet) h
 unfolding leaves_on
 leaf_read sheet leaves h e l =
     ap (λ (ls : List Bool). get_or ls h false) e ∙ tabulate_at (leaf (network_on sheet)) _ h false (rw most_are.hops l)

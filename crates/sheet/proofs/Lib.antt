@@ -1,6 +1,9 @@
 pub mod SheetLaws
-pub mod BlockLaws
+pub mod RoomLaws
+pub mod BlankLaws
 pub mod WalkLaws
 pub mod LeafLaws
+pub mod GoodLaws
+pub mod ReadBack
 pub mod Unique
 pub mod Wiring

@@ -4,20 +4,23 @@ use mathlib.Core.Bool.{true}
 use prog.Linked.{Tree, World, in_world, Holds}
 use prog.LinkedThreads.{HasT}
 use Rattle.frame.proofs.Wiring as frame
-use Rattle.sheet.proofs.delays_of.Symbol.{code as delays_of_code}
-use Rattle.sheet.proofs.hop_at.Symbol.{code as hop_at_code}
-use Rattle.sheet.proofs.walking.hop_row.Symbol.{code as hop_row_code}
-use Rattle.sheet.proofs.hops_in.Symbol.{code as hops_in_code}
-use Rattle.sheet.proofs.walking.leaves.Symbol.{code as leaves_code}
-use Rattle.sheet.proofs.port_at.Symbol.{code as port_at_code}
-use Rattle.sheet.proofs.ports_in.Symbol.{code as ports_in_code}
-use Rattle.sheet.proofs.stream_at.Symbol.{code as stream_at_code}
-use Rattle.sheet.proofs.walking.stream_row.Symbol.{code as stream_row_code}
-use Rattle.sheet.proofs.streams_in.Symbol.{code as streams_in_code}
-use Rattle.sheet.proofs.system_at.Symbol.{code as system_at_code}
-use Rattle.sheet.proofs.systems_in.Symbol.{code as systems_in_code}
-use Rattle.sheet.proofs.vl_at.Symbol.{code as vl_at_code}
-use Rattle.sheet.proofs.vls_in.Symbol.{code as vls_in_code}
+use Rattle.sheet.proofs.accepted.Accepted.new.Symbol.{code as new_code}
+use Rattle.sheet.proofs.Sheet.blank.Symbol.{code as blank_code}
+use Rattle.sheet.proofs.Sheet.clear.Symbol.{code as clear_code}
+use Rattle.sheet.proofs.Sheet.delays.Symbol.{code as delays_code}
+use Rattle.sheet.proofs.Sheet.hop.Symbol.{code as hop_code}
+use Rattle.sheet.proofs.Sheet.hop_row.Symbol.{code as hop_row_code}
+use Rattle.sheet.proofs.Sheet.hops.Symbol.{code as hops_code}
+use Rattle.sheet.proofs.Sheet.leaves.Symbol.{code as leaves_code}
+use Rattle.sheet.proofs.Sheet.port.Symbol.{code as port_code}
+use Rattle.sheet.proofs.Sheet.ports.Symbol.{code as ports_code}
+use Rattle.sheet.proofs.Sheet.stream.Symbol.{code as stream_code}
+use Rattle.sheet.proofs.Sheet.stream_row.Symbol.{code as stream_row_code}
+use Rattle.sheet.proofs.Sheet.streams.Symbol.{code as streams_code}
+use Rattle.sheet.proofs.Sheet.system.Symbol.{code as system_code}
+use Rattle.sheet.proofs.Sheet.systems.Symbol.{code as systems_code}
+use Rattle.sheet.proofs.Sheet.vl.Symbol.{code as vl_code}
+use Rattle.sheet.proofs.Sheet.vls.Symbol.{code as vls_code}
 use Rattle.sheet.proofs.TheLink as the_link
 
 -- each function's code under its symbol
@@ -26,37 +29,43 @@ table = the_link.table
 
 -- what the look-up has, each under its function's name
 pub record Wiring (W : World) : Type 0 where
-  pub delays_of : HasT (in_world W) true delays_of_code
-  pub hop_at : HasT (in_world W) true hop_at_code
+  pub new : HasT (in_world W) true new_code
+  pub blank : HasT (in_world W) true blank_code
+  pub clear : HasT (in_world W) true clear_code
+  pub delays : HasT (in_world W) true delays_code
+  pub hop : HasT (in_world W) true hop_code
   pub hop_row : HasT (in_world W) true hop_row_code
-  pub hops_in : HasT (in_world W) true hops_in_code
+  pub hops : HasT (in_world W) true hops_code
   pub leaves : HasT (in_world W) true leaves_code
-  pub port_at : HasT (in_world W) true port_at_code
-  pub ports_in : HasT (in_world W) true ports_in_code
-  pub stream_at : HasT (in_world W) true stream_at_code
+  pub port : HasT (in_world W) true port_code
+  pub ports : HasT (in_world W) true ports_code
+  pub stream : HasT (in_world W) true stream_code
   pub stream_row : HasT (in_world W) true stream_row_code
-  pub streams_in : HasT (in_world W) true streams_in_code
-  pub system_at : HasT (in_world W) true system_at_code
-  pub systems_in : HasT (in_world W) true systems_in_code
-  pub vl_at : HasT (in_world W) true vl_at_code
-  pub vls_in : HasT (in_world W) true vls_in_code
+  pub streams : HasT (in_world W) true streams_code
+  pub system : HasT (in_world W) true system_code
+  pub systems : HasT (in_world W) true systems_code
+  pub vl : HasT (in_world W) true vl_code
+  pub vls : HasT (in_world W) true vls_code
 
 pub wiring : (W : World) → Holds W "sheet" table → frame.Wiring W → Wiring W
 wiring W held in_frame =
     let below : the_link.Below W = assumption in
     record {
-      delays_of = the_link.linked-sheet::delays_of W held below;
-      hop_at = the_link.linked-sheet::hop_at W held below;
-      hop_row = the_link.linked-sheet::walking::hop_row W held below;
-      hops_in = the_link.linked-sheet::hops_in W held below;
-      leaves = the_link.linked-sheet::walking::leaves W held below;
-      port_at = the_link.linked-sheet::port_at W held below;
-      ports_in = the_link.linked-sheet::ports_in W held below;
-      stream_at = the_link.linked-sheet::stream_at W held below;
-      stream_row = the_link.linked-sheet::walking::stream_row W held below;
-      streams_in = the_link.linked-sheet::streams_in W held below;
-      system_at = the_link.linked-sheet::system_at W held below;
-      systems_in = the_link.linked-sheet::systems_in W held below;
-      vl_at = the_link.linked-sheet::vl_at W held below;
-      vls_in = the_link.linked-sheet::vls_in W held below;
+      new = the_link.linked-sheet::accepted::Accepted::new W held below;
+      blank = the_link.linked-sheet::Sheet::blank W held below;
+      clear = the_link.linked-sheet::Sheet::clear W held below;
+      delays = the_link.linked-sheet::Sheet::delays W held below;
+      hop = the_link.linked-sheet::Sheet::hop W held below;
+      hop_row = the_link.linked-sheet::Sheet::hop_row W held below;
+      hops = the_link.linked-sheet::Sheet::hops W held below;
+      leaves = the_link.linked-sheet::Sheet::leaves W held below;
+      port = the_link.linked-sheet::Sheet::port W held below;
+      ports = the_link.linked-sheet::Sheet::ports W held below;
+      stream = the_link.linked-sheet::Sheet::stream W held below;
+      stream_row = the_link.linked-sheet::Sheet::stream_row W held below;
+      streams = the_link.linked-sheet::Sheet::streams W held below;
+      system = the_link.linked-sheet::Sheet::system W held below;
+      systems = the_link.linked-sheet::Sheet::systems W held below;
+      vl = the_link.linked-sheet::Sheet::vl W held below;
+      vls = the_link.linked-sheet::Sheet::vls W held below;
     }

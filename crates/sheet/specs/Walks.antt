@@ -8,14 +8,15 @@ use Rattle.network.specs.declared.Hop.{Hop}
 use Rattle.network.specs.Network.{stream_at, hop_at}
 use Rattle.network.specs.Views.{leaf}
 use Rattle.table.specs.Decoded.{network_of}
+use Rattle.sheet.specs.declared.Sheet.{Sheet}
 use Rattle.sheet.specs.Sheet.{lists_to, network_on}
 
-unfoldable pub stream_row : List ℕ → ℕ → Stream
+unfoldable pub stream_row : Sheet → ℕ → Stream
 stream_row sheet s = stream_at (network_of (lists_to most sheet)) s
 
-unfoldable pub hop_row : List ℕ → ℕ → Hop
+unfoldable pub hop_row : Sheet → ℕ → Hop
 hop_row sheet h = hop_at (network_of (lists_to most sheet)) h
 
 -- "each hop .. that is nobody's parent"
-unfoldable pub leaves_on : List ℕ → List Bool
+unfoldable pub leaves_on : Sheet → List Bool
 leaves_on sheet = tabulate (leaf (network_on sheet)) (most 5)

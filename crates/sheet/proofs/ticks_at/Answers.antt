@@ -8,6 +8,6 @@ pub returns-then-mbit-eq100 : goal.returns-then-mbit-eq100
 unfolding ticks_at
 returns-then-mbit-eq100 c = rw (eq-eqb _ _ c.if-mbit-eq100.true) c.per_byte.ensures
 
-pub returns : goal.returns
+pub returns-else-mbit-eq100 : goal.returns-else-mbit-eq100
 unfolding ticks_at
-returns c = rw (ne_eqb _ _ c.if-mbit-eq100.false) c.per_byte-2.ensures
+returns-else-mbit-eq100 c = rw (ne_eqb _ _ c.if-mbit-eq100.false) c.per_byte-else-mbit-eq100.ensures

@@ -1,66 +1,60 @@
--- `reader::loading::load` meets its contract: each part is one block more, and zeros stay behind it.
+-- `reader::loading::load` meets its contract: each section's records fit in its list, and stand there before zeros.
 -- Assumes nothing.
-use Prim.Native.Nat.{ℕ}
-use mathlib.Core.Path.{ap}
+use mathlib.Core.Path.{ap, ◌∙◌}
 use native.Mathlib.Omega.{arith}
-use lib.ListN.{length, length-replicate}
 use Rattle.layout.proofs.LayoutLaws.{listed_is}
-use Rattle.layout.proofs.SizeLaws.{places_are}
-use Rattle.layout.specs.Sizes.{place}
-use Rattle.reader.proofs.FillLaws.{head_put, section_room, section_put, all_put}
+use Rattle.table.specs.Lists.{list_for}
+use Rattle.sheet.specs.declared.Sheet.{Sheet}
+use Rattle.sheet.specs.Sheet.{count_for, blank, sheet_of}
+use Rattle.reader.proofs.FillLaws.{count_put, few_counts, section_put, header_put}
 use Rattle.reader.proofs.loading.load.Goals as goal
 
-pub put_head-requires : goal.put_head-requires
-put_head-requires c = let zeros = c.requires.1 in omega (arith, places_are, ap length zeros, length-replicate {A = ℕ} (place 6) 0)
+pub slice_bounds-fill_section-end : goal.slice_bounds-fill_section-end
+slice_bounds-fill_section-end c = omega (arith, few_counts _ c.requires.0 _ c.counts-counts.ensures)
 
--- state_k is what the sheet holds after k parts, and the next part has room on it
-pub put_section-requires : goal.put_section-requires
-put_section-requires c =
-    let a = c.args in
-    let state_0 = head_put a.table.now _ a.sheet.now _ _ c.requires.0 c.counts_of-n.ensures c.requires.1 c.head_of.ensures c.put_head.ensures in
-    section_room state_0 (omega arith) places_are.systems (listed_is 1)
+pub overflow_mul-counts-2 : goal.overflow_mul-counts-2
+overflow_mul-counts-2 c = omega (arith, few_counts _ c.requires.0 _ c.counts-counts.ensures)
 
-pub put_section-requires-2 : goal.put_section-requires-2
-put_section-requires-2 c =
-    let a = c.args in
-    let state_0 = head_put a.table.now _ a.sheet.now _ _ c.requires.0 c.counts_of-n.ensures c.requires.1 c.head_of.ensures c.put_head.ensures in
-    let state_1 = section_put state_0 (omega arith) places_are.systems (listed_is 1) _ c.put_section.ensures in
-    section_room state_1 (omega arith) places_are.vls (listed_is 2)
+pub slice_bounds-fill_section-end-3 : goal.slice_bounds-fill_section-end-3
+slice_bounds-fill_section-end-3 c = omega (arith, few_counts _ c.requires.0 _ c.counts-counts.ensures)
 
-pub put_section-requires-3 : goal.put_section-requires-3
-put_section-requires-3 c =
-    let a = c.args in
-    let state_0 = head_put a.table.now _ a.sheet.now _ _ c.requires.0 c.counts_of-n.ensures c.requires.1 c.head_of.ensures c.put_head.ensures in
-    let state_1 = section_put state_0 (omega arith) places_are.systems (listed_is 1) _ c.put_section.ensures in
-    let state_2 = section_put state_1 (omega arith) places_are.vls (listed_is 2) _ c.put_section-2.ensures in
-    section_room state_2 (omega arith) places_are.streams (listed_is 3)
+pub overflow_mul-counts-3 : goal.overflow_mul-counts-3
+overflow_mul-counts-3 c = omega (arith, few_counts _ c.requires.0 _ c.counts-counts.ensures)
 
-pub put_section-requires-4 : goal.put_section-requires-4
-put_section-requires-4 c =
-    let a = c.args in
-    let state_0 = head_put a.table.now _ a.sheet.now _ _ c.requires.0 c.counts_of-n.ensures c.requires.1 c.head_of.ensures c.put_head.ensures in
-    let state_1 = section_put state_0 (omega arith) places_are.systems (listed_is 1) _ c.put_section.ensures in
-    let state_2 = section_put state_1 (omega arith) places_are.vls (listed_is 2) _ c.put_section-2.ensures in
-    let state_3 = section_put state_2 (omega arith) places_are.streams (listed_is 3) _ c.put_section-3.ensures in
-    section_room state_3 (omega arith) places_are.ports (listed_is 4)
+pub slice_bounds-fill_section-end-5 : goal.slice_bounds-fill_section-end-5
+slice_bounds-fill_section-end-5 c = omega (arith, few_counts _ c.requires.0 _ c.counts-counts.ensures)
 
-pub put_section-requires-5 : goal.put_section-requires-5
-put_section-requires-5 c =
-    let a = c.args in
-    let state_0 = head_put a.table.now _ a.sheet.now _ _ c.requires.0 c.counts_of-n.ensures c.requires.1 c.head_of.ensures c.put_head.ensures in
-    let state_1 = section_put state_0 (omega arith) places_are.systems (listed_is 1) _ c.put_section.ensures in
-    let state_2 = section_put state_1 (omega arith) places_are.vls (listed_is 2) _ c.put_section-2.ensures in
-    let state_3 = section_put state_2 (omega arith) places_are.streams (listed_is 3) _ c.put_section-3.ensures in
-    let state_4 = section_put state_3 (omega arith) places_are.ports (listed_is 4) _ c.put_section-4.ensures in
-    section_room state_4 (omega arith) places_are.hops (listed_is 5)
+pub overflow_mul-counts-4 : goal.overflow_mul-counts-4
+overflow_mul-counts-4 c = omega (arith, few_counts _ c.requires.0 _ c.counts-counts.ensures)
+
+pub slice_bounds-fill_section-end-7 : goal.slice_bounds-fill_section-end-7
+slice_bounds-fill_section-end-7 c = omega (arith, few_counts _ c.requires.0 _ c.counts-counts.ensures)
+
+pub overflow_mul-counts-5 : goal.overflow_mul-counts-5
+overflow_mul-counts-5 c = omega (arith, few_counts _ c.requires.0 _ c.counts-counts.ensures)
+
+pub slice_bounds-fill_section-end-9 : goal.slice_bounds-fill_section-end-9
+slice_bounds-fill_section-end-9 c = omega (arith, few_counts _ c.requires.0 _ c.counts-counts.ensures)
 
 pub returns : goal.returns
+unfolding sheet_of blank list_for count_for
 returns c =
-    let a = c.args in
-    let state_0 = head_put a.table.now _ a.sheet.now _ _ c.requires.0 c.counts_of-n.ensures c.requires.1 c.head_of.ensures c.put_head.ensures in
-    let state_1 = section_put state_0 (omega arith) places_are.systems (listed_is 1) _ c.put_section.ensures in
-    let state_2 = section_put state_1 (omega arith) places_are.vls (listed_is 2) _ c.put_section-2.ensures in
-    let state_3 = section_put state_2 (omega arith) places_are.streams (listed_is 3) _ c.put_section-3.ensures in
-    let state_4 = section_put state_3 (omega arith) places_are.ports (listed_is 4) _ c.put_section-4.ensures in
-    let state_5 = section_put state_4 (omega arith) places_are.hops (listed_is 5) _ c.put_section-5.ensures in
-    all_put state_5
+    let bytes = c.args.table.now in
+    let own = c.requires.0 in
+    let counted = c.counts-counts.ensures in
+    let zeros = c.requires.1 in
+    λ i. record {
+      header = (c.header_list-sheet.ensures ∙ header_put bytes) i;
+      counts = record {
+        systems = count_put bytes own _ counted 0 (omega arith) i;
+        vls = count_put bytes own _ counted 1 (omega arith) i;
+        streams = count_put bytes own _ counted 2 (omega arith) i;
+        ports = count_put bytes own _ counted 3 (omega arith) i;
+        hops = count_put bytes own _ counted 4 (omega arith) i;
+      };
+      systems = section_put bytes own _ counted 0 (omega arith) 1 (listed_is 1) _ (ap (λ (s : Sheet). s.systems) zeros) _ c.fill_section.ensures i;
+      vls = section_put bytes own _ counted 1 (omega arith) 4 (listed_is 2) _ (ap (λ (s : Sheet). s.vls) zeros) _ c.fill_section-2.ensures i;
+      streams = section_put bytes own _ counted 2 (omega arith) 7 (listed_is 3) _ (ap (λ (s : Sheet). s.streams) zeros) _ c.fill_section-3.ensures i;
+      ports = section_put bytes own _ counted 3 (omega arith) 3 (listed_is 4) _ (ap (λ (s : Sheet). s.ports) zeros) _ c.fill_section-4.ensures i;
+      hops = section_put bytes own _ counted 4 (omega arith) 3 (listed_is 5) _ (ap (λ (s : Sheet). s.hops) zeros) _ c.fill_section-5.ensures i;
+    }

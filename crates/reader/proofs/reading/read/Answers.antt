@@ -1,41 +1,39 @@
 -- `reader::reading::read` meets its contract: a refusal of the table itself is handed on and leaves zeros, and so does one of its references; else the sheet is the table's.
 -- Assumes nothing.
-use Prim.Native.Nat.{ℕ}
-use mathlib.Core.Path.{◌≡◌, sym, ap, ◌∙◌}
-use native.Mathlib.Omega.{arith}
-use lib.ListN.{length, replicate}
-use Rattle.layout.specs.Sizes.{place}
-use Rattle.layout.proofs.SizeLaws.{places_are}
-use Rattle.reader.proofs.FillLaws.{refused_read, none_given, sheet_ranges, refused_left, accepted_left}
+use mathlib.Core.Path.{refl, ◌∙◌}
+use Rattle.table.specs.Refusals.{said}
+use Rattle.reader.proofs.FillLaws.{refused_answer, blank_left, none_given_lem, sheet_ranges, answer_is, sheet_is}
 use Rattle.reader.proofs.reading.read.Goals as goal
 
-pub returns-then-is_refusal : goal.returns-then-is_refusal
-returns-then-is_refusal c =
-    let a = c.args in
-    let long : length a.sheet.now ≡ place 6 = omega (arith, places_are) in
-    refused_read a.table.now _ _ c.own_answer-own.ensures (sym c.is_refusal.ensures ∙ c.if-is_refusal.true)
-    (c.clear.ensures ∙ ap (λ (n : ℕ). replicate n 0) long)
+pub returns-in-Err-clause-answer : goal.returns-in-Err-clause-answer
+unfolding said
+returns-in-Err-clause-answer c = refused_answer _ _ c.in-Err.ensures
+
+pub returns-in-Err-clause-network : goal.returns-in-Err-clause-network
+unfolding said
+returns-in-Err-clause-network c = c.clear.ensures ∙ blank_left _ _ (refused_answer _ _ c.in-Err.ensures)
 
 pub load-requires : goal.load-requires
-load-requires c =
-    let a = c.args in
-    let bytes = a.table.now in
-    let long : length a.sheet.now ≡ place 6 = omega (arith, places_are) in
-    (none_given bytes _ c.own_answer-own.ensures (sym c.is_refusal.ensures ∙ c.if-is_refusal.false), c.clear.ensures ∙ ap (λ (n : ℕ). replicate n 0) long)
+unfolding said
+load-requires c = (none_given_lem _ c.in_default.ensures, c.clear.ensures)
 
 pub references-answer-requires : goal.references-answer-requires
-references-answer-requires c =
-    let bytes = c.args.table.now in
-    sheet_ranges bytes _ (none_given bytes _ c.own_answer-own.ensures (sym c.is_refusal.ensures ∙ c.if-is_refusal.false)) c.load.ensures
+unfolding said
+references-answer-requires c = sheet_ranges _ _ (none_given_lem _ c.in_default.ensures) c.load.ensures
 
-pub returns-then-is_refusal-2 : goal.returns-then-is_refusal-2
-returns-then-is_refusal-2 c =
-    let bytes = c.args.table.now in
-    refused_left bytes _ (none_given bytes _ c.own_answer-own.ensures (sym c.is_refusal.ensures ∙ c.if-is_refusal.false)) c.load.ensures _ _ c.references-answer.ensures
-    (sym c.is_refusal-2.ensures ∙ c.if-is_refusal-2.true) c.clear-then-is_refusal-2.ensures
+pub returns-in-Err-answer-clause-answer : goal.returns-in-Err-answer-clause-answer
+unfolding said
+returns-in-Err-answer-clause-answer c = answer_is _ _ (none_given_lem _ c.in_default.ensures) c.load.ensures _ c.references-answer.ensures
 
-pub returns-else-is_refusal-2 : goal.returns-else-is_refusal-2
-returns-else-is_refusal-2 c =
-    let bytes = c.args.table.now in
-    accepted_left bytes _ (none_given bytes _ c.own_answer-own.ensures (sym c.is_refusal.ensures ∙ c.if-is_refusal.false)) c.load.ensures _ c.references-answer.ensures
-    (sym c.is_refusal-2.ensures ∙ c.if-is_refusal-2.false)
+pub returns-in-Err-answer-clause-network : goal.returns-in-Err-answer-clause-network
+unfolding said
+returns-in-Err-answer-clause-network c =
+    c.clear-in-Err-answer.ensures ∙ blank_left _ _ (answer_is _ _ (none_given_lem _ c.in_default.ensures) c.load.ensures _ c.in-Err-answer.ensures)
+
+pub returns-in_default-answer-clause-answer : goal.returns-in_default-answer-clause-answer
+unfolding said
+returns-in_default-answer-clause-answer c = answer_is _ _ (none_given_lem _ c.in_default.ensures) c.load.ensures _ c.references-answer.ensures
+
+pub returns-in_default-answer-clause-network : goal.returns-in_default-answer-clause-network
+unfolding said
+returns-in_default-answer-clause-network c = sheet_is _ _ (none_given_lem _ c.in_default.ensures) c.load.ensures _ c.in_default-answer.ensures refl

@@ -1,6 +1,6 @@
--- `reader::references::samples` meets its contract: after s turns each of the first s streams that is sampling is one packet.
+-- `reader::references::samples` meets its contract: after s turns each of the first s streams is good.
 -- Assumes nothing.
-use Prim.Native.Nat.{ℕ, ◌-◌, ◌≤◌, ◌<◌}
+use Prim.Native.Nat.{ℕ, ◌<◌}
 use mathlib.Core.Bool.{true}
 use mathlib.Core.Path.{◌≡◌}
 use Rattle.network.specs.References.{one_sample}
@@ -8,7 +8,4 @@ use Rattle.sheet.specs.Sheet.{network_on}
 use Rattle.reader.proofs.references.samples.Given as goal
 
 abbrev pub invariant-loop-s : goal.invariant-loop-s
-invariant-loop-s l = (l.s ≤ l.n) × ((k : ℕ) → k < l.s → one_sample (network_on l.net) k ≡ true)
-
-abbrev pub decreases-loop-s : goal.decreases-loop-s
-decreases-loop-s l = l.n - l.s
+invariant-loop-s l = (k : ℕ) → k < l.s → one_sample (network_on l.net) k ≡ true
