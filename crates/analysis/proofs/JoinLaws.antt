@@ -1,22 +1,22 @@
 -- Rows one after the other in a lent list: how long they are together, and one row more behind those that are there.
 -- Assumes nothing.
 use Prim.Native.Nat.{ℕ, zero, suc, ◌+◌, ◌-◌, ◌*◌, ◌≤◌, ◌<◌}
-use mathlib.Core.Bool.{true}
+use mathlib.Core.Bool.{true, false}
 use mathlib.Core.List.{List, [], ◌∷◌, ◌++◌, map, append-nil, append_assoc}
 use mathlib.Core.Path.{◌≡◌, refl, sym, ap, ap₂, ◌∙◌}
 use native.Mathlib.Omega.{arith}
 use lib.ListN.{length, take, drop, replicate, length-append, length-replicate, replicate-append-replicate}
 use lib.Seq.{take_at, drop_at}
 use Rattle.base.specs.Tabulate.{passing}
-use Rattle.network.specs.Network.{Network, stream_at, hop_at}
-use Rattle.network.specs.Views.{leaf, leaves_of}
+use Rattle.network.specs.Network.{Network, stream_at}
+use Rattle.network.specs.Views.{leaves_of}
 use Rattle.rows.specs.Rows.{row_of, rows_to, rows_of}
 use Rattle.table.specs.Sections.{lent}
-use Rattle.table.proofs.LentLaws.{lent_none, length_lent}
+use Rattle.table.proofs.LentLaws.{lent_none}
 use Rattle.answers.specs.Analysis.{joined}
 use Rattle.analysis.specs.Placing.{put_at, Put}
-use Rattle.figures.proofs.CountLaws.{leaves_to, rows_with, length_rows_with}
-use Rattle.analysis.proofs.RowLaws.{rows_up_to, rows_up_to_all, rows_up_to_hit, rows_fit}
+use Rattle.figures.proofs.CountLaws.{is_destination, leaves_to, rows_with, length_rows_with}
+use Rattle.analysis.proofs.RowLaws.{rows_up_to, rows_up_to_all, rows_up_to_hit, rows_up_to_miss, rows_fit}
 
 -- ---- rows one after the other
 joined_append : (a b : List (List ℕ)) → joined (a ++ b) ≡ joined a ++ joined b
@@ -85,39 +85,35 @@ module _ (net : Network) (s at n : ℕ) (result : List ℕ) where
       let e : rows_to net s ≡ rows_up_to net s 0 = sym (append-nil (rows_to net s)) in
       record { place = rw e at p.place; holds = rw e at p.holds }
 
-  pub put_same : (h : ℕ) → rows_up_to net s (h + 1) ≡ rows_up_to net s h → PutTo net s h at n result → PutTo net s (h + 1) at n result
-  put_same h e p = record { place = rw e p.place; holds = rw e p.holds }
+  -- hop h is no destination of the stream
+  pub put_same : (h : ℕ) → is_destination net (stream_at net s).vl h ≡ false → PutTo net s h at n result → PutTo net s (h + 1) at n result
+  put_same h other p = let e = rows_up_to_miss net s h other in record { place = rw e p.place; holds = rw e p.holds }
 
   pub put_all : (h : ℕ) → h ≡ length net.hops → PutTo net s h at n result → Put net (s + 1) at n result
   put_all h e p =
       let whole = rows_up_to_all net s h e in
       record { place = p.place ∙ ap (λ (rows : List (List ℕ)). 6 * length rows) whole; holds = p.holds ∙ ap (λ (rows : List (List ℕ)). lent n (joined rows)) whole }
 
-  -- where there is room for all rows
-  module _ (fits : 6 * length (rows_of net) ≤ n) (there : s < length net.streams) where
-    pub put_length : (h : ℕ) → h ≤ length net.hops → PutTo net s h at n result → length result ≡ n
-    put_length h l p =
-        ap length p.holds ∙ length_lent n (joined (rows_up_to net s h)) (omega (arith, length_rows_up_to net s h, rows_fit net s h there l))
+  -- where there is room for all rows, and hop h is a destination of the stream: its row
+  module _ (fits : 6 * length (rows_of net) ≤ n) (there : s < length net.streams) (h : ℕ) (l : h < length net.hops)
+      (is : is_destination net (stream_at net s).vl h ≡ true) (p : PutTo net s h at n result) where
+    one_more : length (rows_up_to net s (h + 1)) ≡ length (rows_up_to net s h) + 1
+    one_more = ap length (rows_up_to_hit net s h is) ∙ length-append (rows_up_to net s h) (row_of net s h ∷ [])
 
-    -- hop h is a destination of the stream: its row
-    module _ (h : ℕ) (l : h < length net.hops) (on : (hop_at net h).vl ≡ (stream_at net s).vl) (is : leaf net h ≡ true) (p : PutTo net s h at n result) where
-      one_more : length (rows_up_to net s (h + 1)) ≡ length (rows_up_to net s h) + 1
-      one_more = ap length (rows_up_to_hit net s h on is) ∙ length-append (rows_up_to net s h) (row_of net s h ∷ [])
+    pub put_room : at + 6 ≤ n
+    put_room = omega (arith, p.place, one_more, rows_fit net s (h + 1) there (omega arith))
 
-      pub put_room : at + 6 ≤ n
-      put_room = omega (arith, p.place, one_more, rows_fit net s (h + 1) there (omega arith))
-
-      pub put_more : (row after : List ℕ) → row ≡ row_of net s h → after ≡ put_at result at row → PutTo net s (h + 1) (at + 6) n after
-      put_more row after e f = record {
-        place = omega (arith, p.place, one_more);
-        holds =
-            let rows = rows_up_to net s h in
-            let long = length_rows_up_to net s h in
-            f
-            ∙ ap₂ (λ (l r : List ℕ). put_at l at r) p.holds e
-            ∙ put_lent n (joined rows) (row_of net s h) at (omega (arith, p.place)) (omega (arith, row_length net s h, put_room))
-            ∙ ap (lent n) (sym (joined_more rows (row_of net s h)) ∙ ap joined (sym (rows_up_to_hit net s h on is)));
-      }
+    pub put_more : (row after : List ℕ) → row ≡ row_of net s h → after ≡ put_at result at row → PutTo net s (h + 1) (at + 6) n after
+    put_more row after e f = record {
+      place = omega (arith, p.place, one_more);
+      holds =
+          let rows = rows_up_to net s h in
+          let long = length_rows_up_to net s h in
+          f
+          ∙ ap₂ (λ (l r : List ℕ). put_at l at r) p.holds e
+          ∙ put_lent n (joined rows) (row_of net s h) at (omega (arith, p.place)) (omega (arith, row_length net s h, put_room))
+          ∙ ap (lent n) (sym (joined_more rows (row_of net s h)) ∙ ap joined (sym (rows_up_to_hit net s h is)));
+    }
 
 -- ---- none and all of the streams
 pub put_no_rows : (net : Network) (result : List ℕ) → result ≡ replicate (length result) 0 → Put net 0 0 (length result) result

@@ -1,8 +1,6 @@
-pub mod PutLaws
 pub mod RouteLaws
 pub mod RowLaws
 pub mod JoinLaws
-pub mod KnownLaws
 pub mod GivenLaws
 pub mod Unique
 pub mod Wiring

@@ -4,17 +4,19 @@ use Prim.Native.Nat.{ℕ, zero, suc, ◌+◌, ◌-◌, ◌*◌, ◌≤◌, ◌<�
 use mathlib.Core.Bool.{true, false}
 use mathlib.Core.List.{List, [], ◌∷◌, ◌++◌, map, append_assoc, map-append}
 use mathlib.Core.Path.{◌≡◌, sym, ap, ◌∙◌}
+use native.Mathlib.Numerals.{add-one}
 use native.Mathlib.Omega.{arith}
 use lib.ListN.{length}
+use Rattle.base.proofs.TabulateLaws.{passing_hit, passing_miss}
 use Rattle.frame.specs.Packets.{packets}
-use Rattle.network.specs.Network.{Network, vl_at, stream_at, hop_at}
-use Rattle.network.specs.Views.{leaf, leaves_of}
+use Rattle.network.specs.Network.{Network, vl_at, stream_at}
+use Rattle.network.specs.Views.{leaves_of}
 use Rattle.rows.specs.Links.{mux_wait}
 use Rattle.rows.specs.Rows.{queue_of, worst, best, row_jitter, row_of, rows_to, rows_of}
 use Rattle.rows.proofs.RowLaws.{worst_sum, best_sum}
 use Rattle.sheet.specs.declared.Delays.{Delays}
 use Rattle.sheet.specs.Sheet.{delays_in}
-use Rattle.figures.proofs.CountLaws.{is_destination, leaves_to, leaves_of_all, leaves_to_hit, leaves_to_other, leaves_to_inner, rows_with, length_rows_with, rows_more, length_rows_more}
+use Rattle.figures.proofs.CountLaws.{is_destination, leaves_to, leaves_of_all, rows_with, length_rows_with, rows_more, length_rows_more}
 use Rattle.figures.proofs.SumLaws.{passing_grows}
 use Rattle.analysis.specs.declared.results.Ticks.{Ticks}
 use Rattle.analysis.specs.Placing.{RouteTicks, FrameTicks, gaps_of}
@@ -51,18 +53,15 @@ module _ (net : Network) where
   pub rows_up_to_all : (s h : ℕ) → h ≡ length net.hops → rows_up_to s h ≡ rows_to net (s + 1)
   rows_up_to_all s h e = ap (rows_with net s) (leaves_of_all net (stream_at net s).vl h e) ∙ sym (rows_more net s)
 
-  pub rows_up_to_hit : (s h : ℕ) → (hop_at net h).vl ≡ (stream_at net s).vl → leaf net h ≡ true → rows_up_to s (h + 1) ≡ rows_up_to s h ++ (row_of net s h ∷ [])
-  rows_up_to_hit s h e t =
+  pub rows_up_to_hit : (s h : ℕ) → is_destination net (stream_at net s).vl h ≡ true → rows_up_to s (h + 1) ≡ rows_up_to s h ++ (row_of net s h ∷ [])
+  rows_up_to_hit s h is =
       let before = leaves_to net (stream_at net s).vl h in
-      ap (rows_with net s) (leaves_to_hit net (stream_at net s).vl h e t)
+      rw (add-one h) (ap (rows_with net s) (passing_hit (is_destination net (stream_at net s).vl) h is))
       ∙ ap (λ (rows : List (List ℕ)). rows_to net s ++ rows) (map-append (row_of net s) before (h ∷ []))
       ∙ sym (append_assoc (rows_to net s) (map (row_of net s) before) (row_of net s h ∷ []))
 
-  pub rows_up_to_other : (s h : ℕ) → ((hop_at net h).vl ≡ (stream_at net s).vl → ⊥) → rows_up_to s (h + 1) ≡ rows_up_to s h
-  rows_up_to_other s h e = ap (rows_with net s) (leaves_to_other net (stream_at net s).vl h e)
-
-  pub rows_up_to_inner : (s h : ℕ) → leaf net h ≡ false → rows_up_to s (h + 1) ≡ rows_up_to s h
-  rows_up_to_inner s h t = ap (rows_with net s) (leaves_to_inner net (stream_at net s).vl h t)
+  pub rows_up_to_miss : (s h : ℕ) → is_destination net (stream_at net s).vl h ≡ false → rows_up_to s (h + 1) ≡ rows_up_to s h
+  rows_up_to_miss s h other = rw (add-one h) (ap (rows_with net s) (passing_miss (is_destination net (stream_at net s).vl) h other))
 
   -- there are no more of them than of all
   rows_grow : (s n : ℕ) → length (rows_to net s) ≤ length (rows_to net (s + n))

@@ -4,6 +4,7 @@ use mathlib.Core.Bool.{true}
 use prog.Linked.{Tree, World, in_world, Holds}
 use prog.LinkedThreads.{HasT}
 use Rattle.figures.proofs.Wiring as figures
+use Rattle.search.proofs.Wiring as search
 use Rattle.sheet.proofs.Wiring as sheet
 use Rattle.unpacker.proofs.Wiring as unpacker
 use Rattle.analysis.proofs.analysing.analyse.Symbol.{code as analyse_code}
@@ -17,8 +18,8 @@ table = the_link.table
 pub record Wiring (W : World) : Type 0 where
   pub analyse : HasT (in_world W) true analyse_code
 
-pub wiring : (W : World) → Holds W "analysis" table → figures.Wiring W → sheet.Wiring W → unpacker.Wiring W → Wiring W
-wiring W held in_figures in_sheet in_unpacker =
+pub wiring : (W : World) → Holds W "analysis" table → figures.Wiring W → search.Wiring W → sheet.Wiring W → unpacker.Wiring W → Wiring W
+wiring W held in_figures in_search in_sheet in_unpacker =
     let below : the_link.Below W = assumption in
     record {
       analyse = the_link.linked-analysis::analysing::analyse W held below;

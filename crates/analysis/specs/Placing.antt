@@ -1,19 +1,15 @@
 -- The rows in the lent result: what is known before they are computed, and how far they are written. Nothing here has to be believed.
 -- Assumes nothing.
-use Rattle.std.specs.Prelude.{ℕ, ◌+◌, ◌-◌, ◌*◌, ◌≤◌, ◌<◌, Bool, List, ◌++◌, map, ◌≡◌, length, get_or, take, drop, replicate}
+use Rattle.std.specs.Prelude.{ℕ, ◌+◌, ◌-◌, ◌*◌, ◌≤◌, List, ◌++◌, map, ◌≡◌, length, take, drop, replicate}
 use Rattle.base.specs.Tabulate.{total}
 use Rattle.frame.specs.Packets.{packets}
 use Rattle.network.specs.Network.{Network, vl_at, stream_at, hop_at, port_at}
 use Rattle.network.specs.Views.{route}
 use Rattle.rows.specs.Links.{send_most, send_line, hop_line}
-use Rattle.rows.specs.Queues.{queue_figure}
 use Rattle.rows.specs.Ports.{figure_of}
 use Rattle.rows.specs.Rows.{rows_to, rows_of}
 use Rattle.table.specs.Sections.{lent}
 use Rattle.answers.specs.Analysis.{joined}
-use Rattle.sheet.specs.Sheet.{network_on, Good}
-use Rattle.sheet.specs.Walks.{leaves_on}
-use Rattle.figures.specs.Judging.{Computed}
 use Rattle.analysis.specs.declared.results.Ticks.{Ticks}
 
 -- the numbers of a row at a place of the lent result
@@ -37,27 +33,6 @@ pub record FrameTicks (net : Network) (v : ℕ) (r : Ticks) : Type 0 where
 unfoldable pub gaps_of : Network → ℕ → ℕ
 gaps_of net s = (packets (stream_at net s).least (vl_at net (stream_at net s).vl).lmax - 1) * (vl_at net (stream_at net s).vl).gap
 
--- all that is computed before the rows
-pub record Known (sheet waits queues hops : List ℕ) : Type 0 where
-  pub good : Good sheet
-  pub computed : Computed (network_on sheet) waits queues hops
-
--- what a route, a queue and a row ask for
-pub record HopsKnown (sheet hops : List ℕ) (h : ℕ) : Type 0 where
-  pub good : Good sheet
-  pub row : h < length (network_on sheet).hops
-  pub figure_is : (g : ℕ) → g < length (network_on sheet).hops → get_or hops g 0 ≡ figure_of (network_on sheet) g
-
-pub record QueuesKnown (sheet queues : List ℕ) (s : ℕ) : Type 0 where
-  pub good : Good sheet
-  pub row : s < length (network_on sheet).streams
-  pub queue_is : (v k : ℕ) → v < length (network_on sheet).vls → k < (vl_at (network_on sheet) v).sublinks
-      → get_or queues (v * 4 + k) 0 ≡ queue_figure (network_on sheet) v k
-
-pub record Destination (net : Network) (s h : ℕ) : Type 0 where
-  pub stream_there : s < length net.streams
-  pub hop_there : h < length net.hops
-
 -- a lent result that is zero and has room for all rows
 pub record Room (net : Network) (result : List ℕ) : Type 0 where
   pub zero_before : result ≡ replicate (length result) 0
@@ -67,10 +42,3 @@ pub record Room (net : Network) (result : List ℕ) : Type 0 where
 pub record Put (net : Network) (s at n : ℕ) (result : List ℕ) : Type 0 where
   pub place : at ≡ 6 * length (rows_to net s)
   pub holds : result ≡ lent n (joined (rows_to net s))
-
-pub record Putting (sheet waits queues hops : List ℕ) (leaves : List Bool) (s at : ℕ) (result : List ℕ) : Type 0 where
-  pub known : Known sheet waits queues hops
-  pub leaves_are : leaves ≡ leaves_on sheet
-  pub stream_there : s < length (network_on sheet).streams
-  pub before : Put (network_on sheet) s at (length result) result
-  pub fits : 6 * length (rows_of (network_on sheet)) ≤ length result

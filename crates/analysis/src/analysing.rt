@@ -1,36 +1,24 @@
 // The analysis, from the bytes of a table to its rows or its refusal: the figures, which give the answer, and then the rows.
 // The lent result is cleared first, so that a refusal leaves zeros, and an acceptance zeros behind the rows.
 ghost use Rattle.std.specs.Prelude.{length};
-ghost use Rattle.analysis.specs.Analysis.{Analyses};
+ghost use Rattle.analysis.specs.Analysis.{Analyses, analysed_by};
 
-use crate::{Analysed, results};
-use layout::sizes::{MOST_HOPS, MOST_VLS, QUEUES, SHEET};
+use crate::results;
+use figures::{Figures, ROW};
+use sheet::{Accepted, Sheet};
+use table::Refusal;
 
-pub fn analyse(table: &[u8], res: &mut [u64]) -> Analysed
-    ensures { Analyses table.now (length res.old) result res.new }
+// How many rows were written.
+pub fn analyse(table: &[u8], res: &mut [u64]) -> Result<usize, Refusal>
+    ensures { Analyses table.now (length res.old) (analysed_by result) res.new }
 {
     unpacker::clear(res);
-    let mut net = [0u64; SHEET];
-    let mut waits = [0u64; MOST_VLS];
-    let mut queues = [0u64; QUEUES];
-    let mut hops = [0u64; MOST_HOPS];
-    let answer = figures::figures(
-        table,
-        res.len(),
-        &mut net,
-        &mut waits,
-        &mut queues,
-        &mut hops,
-    );
-    if 0 < answer.number {
-        return Analysed {
-            answer: answer,
-            rows: 0,
-        };
+    let mut sheet = Sheet::blank();
+    let mut found = Figures::blank();
+    // No `?`: it calls std, whose code cannot be linked (order/specs/There).
+    if let Err(refusal) = figures::figures(table, res.len(), &mut sheet, &mut found) {
+        return Err(refusal);
     }
-    let end = results::put_rows(&net, &waits, &queues, &hops, res);
-    Analysed {
-        answer: answer,
-        rows: end / 6,
-    }
+    let end = results::put_rows(Accepted::new(&sheet), &found, res);
+    Ok(end / ROW)
 }

@@ -6,11 +6,3 @@ mod analysing;
 mod results;
 
 pub use analysing::analyse;
-use table::Answer;
-
-// 01's answer, and how many rows were written: none on a refusal.
-#[derive(Clone, Copy)]
-pub struct Analysed {
-    pub answer: Answer,
-    pub rows: usize,
-}

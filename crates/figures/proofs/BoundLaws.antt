@@ -4,7 +4,7 @@ use Prim.Native.Nat.{ℕ, zero, suc, ◌+◌, ◌*◌, ◌≤◌, ◌<◌}
 use mathlib.Core.Bool.{true, false, true≢false, ◌&&◌}
 use mathlib.Core.List.{List, map, Memᴰ}
 use mathlib.Core.Logic.{⊎_elim}
-use mathlib.Core.Option.{Option, none, some}
+use Rattle.std.specs.Prelude.{Option, None, Some}
 use mathlib.Core.Path.{◌≡◌, refl, sym, ap, ◌∙◌}
 use native.Mathlib.Nat.{le_trans, mul-le-mul}
 use native.Mathlib.Omega.{arith}
@@ -59,8 +59,8 @@ unfolding figure
 figure_limit lim fs p = go (busy_length_to lim fs) refl
   where
     go : (o : Option ℕ) → busy_length_to lim fs ≡ o → figure fs (number_or0 (busy_length_to lim fs)) ≤ lim
-    go none e = rw (number_of_none (busy_length_to lim fs) e) (greatest_le _ 0 lim (λ d l. absurd (omega arith)))
-    go (some l) e =
+    go None e = rw (number_of_none (busy_length_to lim fs) e) (greatest_le _ 0 lim (λ d l. absurd (omega arith)))
+    go (Some l) e =
         rw (number_is (busy_length_to lim fs) l e) (omega (arith, figure_within_length_to lim fs l p e, ((busy_length_to_lem lim fs l).0 e).in_limit))
 
 pub offered_periodic : (fs : List Flow) → offered fs ≡ true → Periodic fs
@@ -100,14 +100,14 @@ module _ (net : Network) (ranges : Ranges net) (refs : References net) where
   hop_spread_bound : (h : ℕ) → h < length net.hops → hop_spread net h ≤ 1250
   hop_spread_bound h l = omega (arith, hop_spread_is net h, (ranges.port (hop_at net h).port (refs.hop_port h l)).delay_greatest)
 
-  pub sum_without_bound : (e but n : ℕ) → n ≤ length net.vls → sum_without net e but n ≤ n * 15380
+  pub sum_without_bound : (e : ℕ) (but : Option ℕ) (n : ℕ) → n ≤ length net.vls → sum_without net e but n ≤ n * 15380
   unfolding sum_without
   sum_without_bound e but n l =
       passing_most (send_most net) (counts net e but) n 15380 (λ v h. send_most_bound v (omega arith))
 
   pub mux_wait_bound : (v : ℕ) → mux_wait net v ≤ 4095 * 15380
   mux_wait_bound v =
-      omega (arith, mux_wait_is net v, sum_without_bound (vl_at net v).system v (length net.vls) (omega arith), ranges.few_vls)
+      omega (arith, mux_wait_is net v, sum_without_bound (vl_at net v).system (Some v) (length net.vls) (omega arith), ranges.few_vls)
 
   -- a mux wait that is noted
   pub wait_noted : (waits : List ℕ) → waits ≡ lent limits.vls (waits_of net) → (v : ℕ) → v < length net.vls
@@ -174,9 +174,9 @@ module _ (net : Network) (ranges : Ranges net) (refs : References net) where
     where
       go : ((g : ℕ) → g < length net.hops → route_longer net n g ≡ false → jitter_of net g ≤ 63000000 + n * 125001250)
           → (o : Option ℕ) → parent_at net h ≡ o → jitter_of net h ≤ 63000000 + suc n * 125001250
-      go ih none k =
+      go ih None k =
           omega (arith, (figures_of net refs).root_is h l k, root_jitter_is net h, mux_wait_bound (hop_at net h).vl, (spread_of_vl (hop_at net h).vl (refs.hop_vl h l)).1, hop_spread_bound h l)
-      go ih (some g) k =
+      go ih (Some g) k =
           let row : g < length net.hops = omega (arith, refs.parent_earlier_says h g l k) in
           omega (
             arith,

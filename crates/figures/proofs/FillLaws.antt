@@ -45,6 +45,14 @@ module _ (f : ℕ → ℕ) (m : ℕ) where
       let rest : m - length (tabulate f (suc n)) ≡ m - suc n = omega (arith, length_tabulate f (suc n)) in
       rw (add-one n, rest, e, less) (append_assoc (tabulate f n) (0 ∷ []) (replicate (m - suc n) 0))
 
+  -- and so are several
+  pub noted_zeros : (k n : ℕ) → n + k ≤ m → ((i : ℕ) → n ≤ i → i < n + k → f i ≡ 0) → noted f m (n + k) ≡ noted f m n
+  noted_zeros zero n h zero_there = ap (noted f m) (omega arith)
+  noted_zeros (suc k) n h zero_there =
+      ap (noted f m) (omega arith)
+      ∙ noted_zero (n + k) (omega arith) (zero_there (n + k) (omega arith) (omega arith))
+      ∙ noted_zeros k n (omega arith) (λ i a b. zero_there i a (omega arith))
+
   -- ---- what stands in it
   pub noted_at : (n i : ℕ) → i < n → get_or (noted f m n) i 0 ≡ f i
   noted_at n i h = lent_at m (tabulate f n) i (omega (arith, length_tabulate f n)) ∙ tabulate_at f n i 0 h

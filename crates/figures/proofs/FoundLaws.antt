@@ -1,48 +1,64 @@
--- What the station's answer for the first flows of a list says of them: their figure, which is at most the longest busy length, or that they have no busy length.
+-- What the station's answer says of flows that it takes: their figure, or that they have no busy length.
 -- Assumes nothing.
-use Prim.Native.Nat.{ℕ, ◌*◌, ◌≤◌}
-use mathlib.Core.Bool.{true, false, not}
+use Prim.Native.Nat.{ℕ, ◌-◌}
+use mathlib.Core.Bool.{true, false}
 use mathlib.Core.List.{List}
-use mathlib.Core.Path.{◌≡◌, sym, ap, ◌∙◌}
+use mathlib.Core.Path.{◌≡◌, refl, ap, ◌∙◌}
 use native.Mathlib.Omega.{arith}
-use lib.ListN.{length}
-use Rattle.base.specs.Least.{greatest_below}
-use Rattle.base.proofs.TestLaws.{some_is, none_is, number_is, number_of_none}
-use Rattle.station.specs.declared.Answer.{Answer}
-use Rattle.station.specs.declared.Answer.TheVariants.{Served, OutOfRange, Endless}
-use Rattle.station.specs.Station.{busy_length, figure}
-use Rattle.station.specs.Offered.{most_flows, offered, station_says}
-use Rattle.station.specs.Flat.{flows_in, first_says}
+use lib.ListN.{get_or}
+use Rattle.std.specs.Prelude.{Option, None, Some, Ok, Err}
+use Rattle.base.specs.Said.{Said}
+use Rattle.base.specs.Tests.{is_some, number_or0}
+use Rattle.station.specs.declared.Busy.{Busy}
+use Rattle.station.specs.declared.Refusal.{Refusal}
+use Rattle.station.specs.declared.Refusal.TheVariants.{OutOfRange, Endless}
+use Rattle.station.specs.Station.{Flow, busy_length, figure}
+use Rattle.station.specs.Offered.{offered, served_says, station_says}
 use Rattle.station.specs.Answer.{said}
-use Rattle.station.proofs.AnswerLaws.{served_was, endless_was, never_out_of_range}
-use Rattle.station.proofs.FlatLaws.{length_flows_in, first_long}
-use Rattle.figures.specs.Gathering.{Found}
-use Rattle.figures.proofs.GatherLaws.{offered_few}
+use Rattle.figures.specs.Gathering.{if_busy, figure_in}
 
-module _ (list : List ℕ) (n : ℕ) (long : most_flows * 3 ≤ length list) (ok : offered (flows_in list n) ≡ true) (r : Answer) (told : said r ≡ first_says list n) where
-  says : (s : Answer) → r ≡ s → said s ≡ station_says (flows_in list n)
-  says s is =
-      sym (ap said is) ∙ told ∙ first_long list n (omega (arith, offered_few (flows_in list n) ok, length_flows_in list n))
+-- ---- a figure where there is a busy length
+pub busy_given : (o : Option ℕ) (f g : ℕ) → Some g ≡ if_busy o f → (is_some o ≡ true) × (g ≡ f)
+unfolding if_busy is_some
+busy_given None f g e = (cc)
+busy_given (Some l) f g e = (refl, cc)
 
-  pub found_figure : (l v : ℕ) → r ≡ Served l v → Found (flows_in list n) (record { endless = false; figure = v })
-  found_figure l v is =
-      let fs = flows_in list n in
-      let was = served_was fs ok l v (says (Served l v) is) in
-      let figure_is = was.1 ∙ ap (figure fs) (sym (number_is (busy_length fs) l was.0)) in
-      record {
-        endless_is = sym (ap not (some_is (busy_length fs) l was.0));
-        figure_is = figure_is;
-      }
+pub busy_none : (o : Option ℕ) (f : ℕ) → None ≡ if_busy o f → is_some o ≡ false
+unfolding if_busy is_some
+busy_none None f e = refl
+busy_none (Some l) f e = (cc)
 
-  pub found_endless : r ≡ Endless → Found (flows_in list n) (record { endless = true; figure = 0 })
-  unfolding figure greatest_below
-  found_endless is =
-      let fs = flows_in list n in
-      let was = endless_was fs ok (says Endless is) in
-      record {
-        endless_is = sym (ap not (none_is (busy_length fs) was));
-        figure_is = sym (ap (figure fs) (number_of_none (busy_length fs) was));
-      }
+-- the same number less from both
+pub given_less : (o : Option ℕ) (f r n : ℕ) → Some r ≡ if_busy o f → Some (r - n) ≡ if_busy o (f - n)
+unfolding if_busy
+given_less None f r n e = cc
+given_less (Some l) f r n e = let same : r ≡ f = cc in ap (λ (x : ℕ). Some (x - n)) same
 
-  pub found_no_range : r ≡ OutOfRange → ⊥
-  found_no_range is = never_out_of_range (flows_in list n) ok (says OutOfRange is)
+pub none_less : (o : Option ℕ) (f n : ℕ) → None ≡ if_busy o f → None ≡ if_busy o (f - n)
+unfolding if_busy
+none_less None f n e = refl
+none_less (Some l) f n e = cc
+
+-- ---- the station's answer
+module _ (fs : List Flow) (ok : offered fs ≡ true) where
+  says : station_says fs ≡ served_says fs (busy_length fs)
+  unfolding station_says
+  says = rw ok
+
+  pub figure_served : (b : Busy) → said (Ok b) ≡ station_says fs → Some b.figure ≡ figure_in fs
+  unfolding said served_says figure_in if_busy number_or0
+  figure_served b e = go (busy_length fs) (e ∙ says)
+    where
+      go : (o : Option ℕ) → said (Ok b) ≡ served_says fs o → Some b.figure ≡ if_busy o (figure fs (number_or0 o))
+      go None h = absurd (omega (arith, ap (λ (s : Said). s.number) h))
+      go (Some l) h = ap Some (ap (λ (s : Said). get_or s.values 1 0) h)
+
+  pub figure_refused : (r : Refusal) → said (Err r) ≡ station_says fs → None ≡ figure_in fs
+  unfolding said served_says figure_in if_busy
+  figure_refused r e = go r (busy_length fs) (e ∙ says)
+    where
+      go : (r : Refusal) (o : Option ℕ) → said (Err r) ≡ served_says fs o → None ≡ if_busy o (figure fs (number_or0 o))
+      go OutOfRange None h = absurd (omega (arith, ap (λ (s : Said). s.number) h))
+      go OutOfRange (Some l) h = absurd (omega (arith, ap (λ (s : Said). s.number) h))
+      go Endless None h = refl
+      go Endless (Some l) h = absurd (omega (arith, ap (λ (s : Said). s.number) h))

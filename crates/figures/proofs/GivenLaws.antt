@@ -1,28 +1,15 @@
--- What a caller reads off the reply of a rule: the number that the rule gives, 0 where it gives none; and that the frame rule and equation 4 give one for every VL and message of an accepted table.
+-- The frame rule and equation 4 give a number for every VL and message of an accepted table.
 -- Assumes nothing.
 use Prim.Native.Nat.{ℕ, ◌≤◌}
-use mathlib.Core.Option.{Option}
-use mathlib.Core.Path.{◌≡◌, sym, ap, ◌∙◌}
+use mathlib.Core.Path.{◌≡◌, ◌∙◌}
 use native.Mathlib.Omega.{arith}
-use Rattle.base.specs.Said.{ruled}
 use Rattle.base.specs.Tests.{number_or0}
-use Rattle.base.proofs.TestLaws.{number_is, number_of_none}
+use Rattle.base.proofs.TestLaws.{number_is}
 use Rattle.frame.specs.Frame.{largest_line}
 use Rattle.frame.specs.Offered.{largest_line_of, packets_of}
 use Rattle.frame.specs.Packets.{packets}
-use Rattle.frame.specs.Reply.{said}
-use Rattle.frame.specs.declared.Reply.{Reply}
-use Rattle.frame.specs.declared.Reply.TheVariants.{Value, Refused}
 use Rattle.frame.proofs.FrameLaws.{least_line_is, largest_line_bounds, largest_line_given, protocol_overhead_is}
 use Rattle.frame.proofs.PacketLaws.{most_packets, packets_given, packets_some, packets_most}
-use Rattle.frame.proofs.ReplyLaws.{value_was, refused_was}
-
-module _ (o : Option ℕ) (r : Reply) (told : said r ≡ ruled o) where
-  pub value_given : (n : ℕ) → r ≡ Value n → n ≡ number_or0 o
-  value_given n is = sym (number_is o n (value_was o n (sym (ap said is) ∙ told)))
-
-  pub refused_given : r ≡ Refused → 0 ≡ number_or0 o
-  refused_given is = sym (number_of_none o (refused_was o (sym (ap said is) ∙ told)))
 
 -- ---- the most bytes of a frame
 pub line_is : (lmax r : ℕ) → 64 ≤ lmax → lmax ≤ 1518 → r ≡ number_or0 (largest_line_of lmax) → (r ≡ largest_line lmax) × (84 ≤ r) × (r ≤ 1538)

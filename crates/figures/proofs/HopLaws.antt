@@ -2,7 +2,7 @@
 -- Assumes nothing.
 use Prim.Native.Nat.{ℕ, ◌+◌, ◌-◌, ◌*◌, ◌<◌}
 use mathlib.Core.List.{List}
-use mathlib.Core.Option.{none, some}
+use Rattle.std.specs.Prelude.{None, Some}
 use mathlib.Core.Path.{◌≡◌, sym, ap, ◌∙◌}
 use native.Mathlib.Omega.{arith}
 use lib.ListN.{length, get_or}
@@ -16,7 +16,6 @@ use Rattle.station.specs.Station.{Flow}
 use Rattle.rows.specs.Links.{send_spread, mux_wait, hop_most, hop_line, hop_spread}
 use Rattle.rows.specs.Ports.{hop_flow, jitter_of, figure_of}
 use Rattle.rows.proofs.PortLaws.{figures_of}
-use Rattle.sheet.specs.Sheet.{network_on}
 use Rattle.figures.specs.Computing.{HopAsked}
 use Rattle.figures.proofs.LinkLaws.{hop_most_is, hop_least_is, hop_spread_is, root_jitter_is, child_jitter_is}
 
@@ -28,10 +27,10 @@ module _ (net : Network) where
 
   -- ---- the jitter, and the flow
   module _ (refs : References net) (h : ℕ) (row : h < length net.hops) (hop : Hop) (is : hop ≡ hop_at net h) where
-    pub root_apart : (apart : ℕ) → parent_at net h ≡ none → apart ≡ mux_wait net hop.vl + send_spread net hop.vl → apart + hop_spread net h ≡ jitter_of net h
+    pub root_apart : (apart : ℕ) → parent_at net h ≡ None → apart ≡ mux_wait net hop.vl + send_spread net hop.vl → apart + hop_spread net h ≡ jitter_of net h
     root_apart apart root a = rw (a, is) (sym ((figures_of net refs).root_is h row root ∙ root_jitter_is net h))
 
-    pub child_apart : (g apart : ℕ) → parent_at net h ≡ some g → apart ≡ jitter_of net g + (figure_of net g - hop_line net g) → apart + hop_spread net h ≡ jitter_of net h
+    pub child_apart : (g apart : ℕ) → parent_at net h ≡ Some g → apart ≡ jitter_of net g + (figure_of net g - hop_line net g) → apart + hop_spread net h ≡ jitter_of net h
     child_apart g apart child a =
         rw a (sym ((figures_of net refs).child_is h g row child ∙ child_jitter_is net h g (jitter_of net g) (figure_of net g)))
 
@@ -51,12 +50,11 @@ pub record Above (net : Network) (g : ℕ) (figures jitters : List ℕ) : Type 0
   pub figure_is : get_or figures g 0 ≡ figure_of net g
   pub jitter_is : get_or jitters g 0 ≡ jitter_of net g
 
-pub above_noted : (sheet waits figures jitters : List ℕ) (h g : ℕ) (hop : Hop) → HopAsked sheet waits figures jitters h hop → parent_at (network_on sheet) h ≡ some g
-    → Above (network_on sheet) g figures jitters
-above_noted sheet waits figures jitters h g hop asked child =
-    let refs = asked.known.good.references in
-    let row : g < length (network_on sheet).hops = omega (arith, refs.parent_earlier_says h g asked.there child, asked.there) in
-    let lower : (hop_at (network_on sheet) g).port < hop.port = rw asked.is (refs.parent_port h g asked.there child) in
+pub above_noted : (net : Network) → References net → (waits figures jitters : List ℕ) (h g : ℕ) (hop : Hop) → HopAsked net waits figures jitters h hop
+    → parent_at net h ≡ Some g → Above net g figures jitters
+above_noted net refs waits figures jitters h g hop asked child =
+    let row : g < length net.hops = omega (arith, refs.parent_earlier_says h g asked.there child, asked.there) in
+    let lower : (hop_at net g).port < hop.port = rw asked.is (refs.parent_port h g asked.there child) in
     record {
       row = row;
       figure_is = asked.known.figures_are.below g row lower;

@@ -13,6 +13,7 @@ use Rattle.network.specs.Ranges.{Ranges}
 use Rattle.table.specs.declared.Answer.{Answer}
 use Rattle.table.specs.Unpack.{left}
 use Rattle.table.specs.Read.{network_in}
+use Rattle.sheet.specs.declared.Sheet.{Sheet}
 use Rattle.sheet.specs.Sheet.{network_on, Good}
 use Rattle.reader.specs.Reading.{read_sheet}
 use Rattle.reader.proofs.FillLaws.{good_sheet}
@@ -21,13 +22,14 @@ use Rattle.rows.specs.Ports.{figure_of}
 use Rattle.rows.specs.Rows.{rows_of}
 use Rattle.answers.specs.Analysis.{analysis_answer, accepts}
 use Rattle.answers.proofs.AcceptedLaws.{number_accepts, accepted_was}
+use Rattle.figures.specs.declared.found.Figures.{Figures}
 use Rattle.figures.specs.Figures.{queue_at, queues_of, hop_figures, Figured}
 use Rattle.figures.specs.Judging.{Computed}
 use Rattle.figures.proofs.FillLaws.{noted_at}
 use Rattle.figures.proofs.QueueLaws.{queue_at_lem}
 
-module _ (net : Network) (waits queues hops : List ℕ) (all : Computed net waits queues hops) where
-  pub queue_there : Ranges net → (v k : ℕ) → v < length net.vls → k < (vl_at net v).sublinks → get_or queues (v * 4 + k) 0 ≡ queue_figure net v k
+module _ (net : Network) (found : Figures) (all : Computed net found) where
+  pub queue_there : Ranges net → (v k : ℕ) → v < length net.vls → k < (vl_at net v).sublinks → get_or found.queues (v * 4 + k) 0 ≡ queue_figure net v k
   unfolding queues_of
   queue_there ranges v k l h =
       let four : k < 4 = omega (arith, (ranges.vl v l).sub_links_greatest) in
@@ -35,26 +37,26 @@ module _ (net : Network) (waits queues hops : List ℕ) (all : Computed net wait
       ∙ noted_at (queue_at net) (limits.vls * 4) (length net.vls * 4) (v * 4 + k) (omega arith)
       ∙ queue_at_lem net v k four h
 
-  pub figure_at_lem : (h : ℕ) → h < length net.hops → get_or hops h 0 ≡ figure_of net h
+  pub figure_at_lem : (h : ℕ) → h < length net.hops → get_or found.hops h 0 ≡ figure_of net h
   unfolding hop_figures
   figure_at_lem h l = ap (λ (fs : List ℕ). get_or fs h 0) all.hops_are ∙ noted_at (figure_of net) limits.hops (length net.hops) h l
 
 -- ---- on acceptance
-pub record Known (bytes : List ℕ) (room : ℕ) (sheet waits queues hops : List ℕ) : Type 0 where
+pub record Known (bytes : List ℕ) (room : ℕ) (sheet : Sheet) (found : Figures) : Type 0 where
   pub same : network_on sheet ≡ network_in bytes
   pub good : Good sheet
-  pub computed : Computed (network_on sheet) waits queues hops
+  pub computed : Computed (network_on sheet) found
   pub rows_fit : 6 * length (rows_of (network_on sheet)) ≤ room
 
-pub figured_known : (bytes : List ℕ) (room : ℕ) (r : Answer) (sheet waits queues hops : List ℕ) → Figured bytes room r sheet waits queues hops → r.number ≡ 0
-    → Known bytes room sheet waits queues hops
+pub figured_known : (bytes : List ℕ) (room : ℕ) (r : Answer) (sheet : Sheet) (found : Figures) → Figured bytes room r sheet found → r.number ≡ 0
+    → Known bytes room sheet found
 unfolding accepts left read_sheet
-figured_known bytes room r sheet waits queues hops f z =
+figured_known bytes room r sheet found f z =
     let number = ap (λ (x : Answer). x.number) (sym f.answer_is) ∙ z in
     let yes = eq-eqb (analysis_answer bytes room).number 0 number in
     let was = accepted_was bytes room (number_accepts bytes room number) in
     let read = ap (λ (x : Answer). x.number) was.reads in
-    let sheet-is : sheet ≡ read_sheet bytes = rw yes at f.net_is ∙ rw (eq-eqb _ 0 read) in
+    let sheet-is : sheet ≡ read_sheet bytes = rw yes at f.sheet_is ∙ rw (eq-eqb _ 0 read) in
     let is = good_sheet bytes sheet was.reads sheet-is in
     record {
       same = is.0;

@@ -1,10 +1,11 @@
 -- Frames on links and jitters of hops in the numbers that they are computed from; the sum of an end system's frames with one VL left out, VL by VL; and that the sum of all and the mux wait are such sums.
 -- Assumes nothing.
 use Prim.Native.Nat.{ℕ, suc, ◌+◌, ◌-◌, ◌*◌, ◌≤◌}
-use mathlib.Core.Bool.{Bool, ◌&&◌, not, and-true, and-false}
+use mathlib.Core.Bool.{Bool, true, false, ◌&&◌, not, and-true, and-false}
 use mathlib.Core.List.{List, map}
+use Rattle.std.specs.Prelude.{Option, None, Some}
+use Rattle.std.specs.Option.{option_eq}
 use mathlib.Core.Path.{◌≡◌, refl, sym, ap, ◌∙◌}
-use native.Mathlib.Omega.{arith}
 use borrow.Author.Tests.{eq-eqb, ne_eqb}
 use lib.Dec.{eqb}
 use lib.ListN.{length}
@@ -27,8 +28,8 @@ use Rattle.figures.specs.Computing.{sum_without}
 use Rattle.figures.proofs.SumLaws.{total_hit, total_miss}
 
 -- a VL that counts: of the end system, and not the one left out
-abbrev pub counts : Network → ℕ → ℕ → ℕ → Bool
-counts net e but u = eqb (vl_at net u).system e && not (eqb u but)
+abbrev pub counts : Network → ℕ → Option ℕ → ℕ → Bool
+counts net e but u = eqb (vl_at net u).system e && not (option_eq eqb (Some u) but)
 
 -- ---- what each is made of: the one place that opens the definitions of links and jitters
 module _ (net : Network) where
@@ -76,41 +77,43 @@ module _ (net : Network) where
   child_jitter_is h g j f = refl
 
   -- ---- sums
-  pub mux_wait_is : (v : ℕ) → mux_wait net v ≡ sum_without net (vl_at net v).system v (length net.vls)
+  pub mux_wait_is : (v : ℕ) → mux_wait net v ≡ sum_without net (vl_at net v).system (Some v) (length net.vls)
   unfolding mux_wait sum_without
   mux_wait_is v = refl
 
-  module _ (e but : ℕ) where
+  module _ (e : ℕ) (but : Option ℕ) where
     pub sum_without_none : sum_without net e but 0 ≡ 0
     unfolding sum_without passing total
     sum_without_none = refl
 
     -- another VL of the end system
-    pub sum_without_more : (v : ℕ) → (vl_at net v).system ≡ e → (v ≡ but → ⊥) → sum_without net e but (suc v) ≡ sum_without net e but v + send_most net v
+    pub sum_without_more : (v : ℕ) → (vl_at net v).system ≡ e → option_eq eqb (Some v) but ≡ false → sum_without net e but (suc v) ≡ sum_without net e but v + send_most net v
     unfolding sum_without
     sum_without_more v here other =
-        total_hit (send_most net) (counts net e but) v (rw (eq-eqb (vl_at net v).system e here, ne_eqb v but other))
+        total_hit (send_most net) (counts net e but) v (rw (eq-eqb (vl_at net v).system e here, other))
 
     -- the VL that is left out, and a VL of another end system
-    pub sum_without_itself : (v : ℕ) → v ≡ but → sum_without net e but (suc v) ≡ sum_without net e but v
+    pub sum_without_itself : (v : ℕ) → option_eq eqb (Some v) but ≡ true → sum_without net e but (suc v) ≡ sum_without net e but v
     unfolding sum_without
     sum_without_itself v same =
         total_miss (send_most net) (counts net e but) v
-        (rw (eq-eqb v but same) (and-false (eqb (vl_at net v).system e)))
+        (rw same (and-false (eqb (vl_at net v).system e)))
 
     pub sum_without_stranger : (v : ℕ) → ((vl_at net v).system ≡ e → ⊥) → sum_without net e but (suc v) ≡ sum_without net e but v
     unfolding sum_without
     sum_without_stranger v elsewhere =
         total_miss (send_most net) (counts net e but) v (rw (ne_eqb (vl_at net v).system e elsewhere))
 
-  -- a number that no VL has leaves none out
-  pub send_sum_is : (e : ℕ) → send_sum net e ≡ sum_without net e (length net.vls) (length net.vls)
+  -- where none is left out
+  pub send_sum_is : (e : ℕ) → send_sum net e ≡ sum_without net e None (length net.vls)
   unfolding send_sum vls_of sum_without
   send_sum_is e =
       ap (λ (l : List ℕ). total (map (send_most net) l))
-      (passing_same (λ u. eqb (vl_at net u).system e) (counts net e (length net.vls)) (length net.vls)
-      (λ u l. rw (ne_eqb u (length net.vls) (λ same. omega arith)) (sym (and-true (eqb (vl_at net u).system e)))))
+      (passing_same (λ u. eqb (vl_at net u).system e) (counts net e None) (length net.vls)
+      (λ u l. sym (and-true (eqb (vl_at net u).system e))))
 
   -- equation 1, as it is tested
-  pub late_is : net.tick ≡ in_force → (e s : ℕ) (r t : Bool) → s ≡ send_sum net e → r ≡ sends_in_time s → not r ≡ t → sends_late net e ≡ t
-  late_is rules e s r t sum told tested = late_by_rules net rules e ∙ ap (λ (n : ℕ). not (sends_in_time n)) (sym sum) ∙ (ap not (sym told) ∙ tested)
+  pub late_is : net.tick ≡ in_force → (e sum : ℕ) (r : Bool) → sum ≡ sum_without net e None (length net.vls) → r ≡ sends_in_time sum
+      → not r ≡ sends_late net e
+  late_is rules e sum r is told =
+      ap not (told ∙ ap sends_in_time (is ∙ sym (send_sum_is e))) ∙ sym (late_by_rules net rules e)

@@ -1,4 +1,4 @@
--- Flows of a sub-link, and the queues of the VLs, place after place: what the steps of their computation say.
+-- Flows of a sub-link, and the queues of the VLs, sub-link after sub-link: what the steps of their computation say.
 -- Assumes nothing.
 use Prim.Native.Nat.{ℕ, ◌+◌, ◌-◌, ◌*◌, ◌/◌, ◌%◌, ◌≤◌, ◌<◌}
 use mathlib.Core.Bool.{Bool, true, false, ◌&&◌, not, and-false}
@@ -9,6 +9,7 @@ use borrow.Author.Tests.{eq-eqb, ne_eqb, lt-ltb, le-ltb}
 use lib.Dec.{eqb}
 use borrow.Author.Count.{below_more}
 use lib.ListN.{length, set, replicate}
+use Rattle.std.specs.Prelude.{None, Some}
 use Rattle.base.specs.Tests.{is_some}
 use Rattle.base.proofs.LeastLaws.{least_none, least_exists}
 use Rattle.base.proofs.TestLaws.{some_is, none_is}
@@ -17,22 +18,22 @@ use Rattle.layout.specs.Limits.{limits}
 use Rattle.network.specs.declared.Vl.{Vl}
 use Rattle.network.specs.declared.Stream.{Stream}
 use Rattle.network.specs.Network.{Network, vl_at, stream_at}
-use Rattle.station.specs.Offered.{most_flows}
-use Rattle.station.specs.Flat.{flows_in}
 use Rattle.network.specs.Ranges.{Ranges}
 use Rattle.network.specs.ReferenceFacts.{References}
 use Rattle.network.specs.Views.{streams_on}
+use Rattle.station.specs.Station.{Flow}
+use Rattle.station.specs.Offered.{most_flows}
 use Rattle.rows.specs.Queues.{queue_flow, queue_flows, queue_length, queue_figure}
 use Rattle.rows.specs.Refusals.{endless_sub_link}
 use Rattle.rows.proofs.TickLaws.{queue_length_is, queue_figure_is}
 use Rattle.sheet.specs.declared.Delays.{Delays}
-use Rattle.figures.specs.declared.flows.Outcome.{Outcome}
 use Rattle.sheet.specs.Sheet.{delays_in}
-use Rattle.figures.specs.Figures.{queue_at, queues_of}
-use Rattle.figures.specs.Computing.{noted, QueueOf, QueuesDone}
-use Rattle.figures.specs.Gathering.{flow_of, Found}
-use Rattle.figures.proofs.FillLaws.{noted_none, noted_more, noted_zero}
+use Rattle.figures.specs.Figures.{queue_at}
+use Rattle.figures.specs.Computing.{noted}
+use Rattle.figures.specs.Gathering.{flow_of, if_busy, figure_in}
 use Rattle.figures.proofs.BoundLaws.{queue_offered}
+use Rattle.figures.proofs.FillLaws.{noted_none, noted_more, noted_zeros}
+use Rattle.figures.proofs.FoundLaws.{busy_given, busy_none, given_less, none_less}
 use Rattle.figures.proofs.GatherLaws.{Gathers, gather_room}
 
 -- ---- the flow of a stream, from what is read off the sheet
@@ -51,11 +52,10 @@ module _ (net : Network) (v k s : ℕ) (stream : Stream) (is : stream ≡ stream
 
   -- it has its place: a queue has no more flows than there are streams
   pub sub_link_room : Ranges net → References net → s < length net.streams → stream.vl ≡ v → stream.sublink ≡ k
-      → (flows : List ℕ) (count : ℕ)
-      → Gathers (queue_flow net) (on_sub_link net v k) s flows count → count * 3 + 2 < most_flows * 3
+      → (flows : List Flow) → Gathers (queue_flow net) (on_sub_link net v k) s flows → length flows < most_flows
   unfolding queue_flows streams_on
-  sub_link_room ranges refs row e f flows count g =
-      gather_room (queue_flow net) (on_sub_link net v k) s flows count g (on_sub_link_lem e f) (length net.streams) row
+  sub_link_room ranges refs row e f flows g =
+      gather_room (queue_flow net) (on_sub_link net v k) s flows g (on_sub_link_lem e f) (length net.streams) row
       (queue_offered net ranges refs v k)
 
   pub on_other_sub_link : (stream.sublink ≡ k → ⊥) → on_sub_link net v k s ≡ false
@@ -66,18 +66,19 @@ module _ (net : Network) (v k s : ℕ) (stream : Stream) (is : stream ≡ stream
 
 module _ (net : Network) (v k : ℕ) where
   -- all streams are passed
-  pub sub_link_gathered : (n : ℕ) (flows : List ℕ) (count : ℕ) → n ≡ length net.streams
-      → Gathers (queue_flow net) (on_sub_link net v k) n flows count → flows_in flows count ≡ queue_flows net v k
+  pub sub_link_gathered : (n : ℕ) (flows : List Flow) → n ≡ length net.streams → Gathers (queue_flow net) (on_sub_link net v k) n flows → flows ≡ queue_flows net v k
   unfolding queue_flows streams_on
-  sub_link_gathered n flows count all g = rw (← all) g
+  sub_link_gathered n flows all g = rw (← all) g
 
-  -- what the station found of the flows is the queue
-  pub queue_found : net.tick ≡ in_force → (flows : List ℕ) (count : ℕ) (o : Outcome) (gap r : ℕ) → flows_in flows count ≡ queue_flows net v k → Found (flows_in flows count) o → gap ≡ (vl_at net v).gap
-      → r ≡ o.figure - gap → QueueOf net v k (record { endless = o.endless; figure = r })
-  queue_found rules flows count o gap r g found same e = record {
-    endless_is = rw (queue_length_is net rules v k) (found.endless_is ∙ rw g);
-    figure_is = rw (queue_figure_is net rules v k) (e ∙ rw (found.figure_is, g, same));
-  }
+  -- the station's figure of the flows, less one gap
+  module _ (rules : net.tick ≡ in_force) (flows : List Flow) (all : flows ≡ queue_flows net v k) (gap : ℕ) (same : gap ≡ (vl_at net v).gap) where
+    pub queue_given : (r : ℕ) → Some r ≡ figure_in flows → Some (r - gap) ≡ if_busy (queue_length net v k) (queue_figure net v k)
+    unfolding figure_in
+    queue_given r e = rw (queue_length_is net rules v k, queue_figure_is net rules v k, ← same) (given_less _ _ r gap (rw all at e))
+
+    pub queue_none : None ≡ figure_in flows → None ≡ if_busy (queue_length net v k) (queue_figure net v k)
+    unfolding figure_in
+    queue_none e = rw (queue_length_is net rules v k, queue_figure_is net rules v k, ← same) (none_less _ _ gap (rw all at e))
 
 -- ---- a queue without a busy length
 module _ (net : Network) (v : ℕ) where
@@ -105,62 +106,54 @@ module _ (net : Network) (v k : ℕ) (four : k < 4) where
   unfolding queue_at
   queue_at_lem h = rw (place_vl, place_link, lt-ltb k (vl_at net v).sublinks h)
 
--- ---- place after place: the figures of the first i places are noted, and no queue there is without a busy length
-pub record QueuesTo (net : Network) (i : ℕ) (queues : List ℕ) : Type 0 where
-  pub far : i ≤ length net.vls * 4
-  pub noted_are : queues ≡ noted (queue_at net) (limits.vls * 4) i
-  pub served : (j : ℕ) → j < i → j % 4 < (vl_at net (j / 4)).sublinks → not (is_some (queue_length net (j / 4) (j % 4))) ≡ false
+-- ---- sub-link after sub-link: the figures of the VLs below v and of the first k sub-links of VL v are noted, and none of them is without
+-- a busy length
+pub record QueuesTo (net : Network) (v k : ℕ) (queues : List ℕ) : Type 0 where
+  pub noted_are : queues ≡ noted (queue_at net) (limits.vls * 4) (v * 4 + k)
+  pub served : (u : ℕ) → u < v → is_some (endless_sub_link net u) ≡ false
+  pub here : (j : ℕ) → j < k → not (is_some (queue_length net v j)) ≡ false
 
-pub queues_none : (net : Network) (queues : List ℕ) → queues ≡ replicate (limits.vls * 4) 0 → QueuesTo net 0 queues
-queues_none net queues e =
-    record { far = omega arith; noted_are = e ∙ noted_none (queue_at net) (limits.vls * 4); served = λ j l. absurd (omega arith) }
+pub queues_start : (net : Network) (queues : List ℕ) → queues ≡ replicate (limits.vls * 4) 0 → QueuesTo net 0 0 queues
+queues_start net queues e =
+    record { noted_are = e ∙ noted_none (queue_at net) (limits.vls * 4); served = λ u l. absurd (omega arith); here = λ j l. absurd (omega arith) }
 
-module _ (net : Network) (ranges : Ranges net) (i : ℕ) (queues : List ℕ) (so_far : QueuesTo net i queues) where
-  -- a VL whose places are all passed
-  vl_served : (u : ℕ) → u * 4 + 4 ≤ i → is_some (endless_sub_link net u) ≡ false
-  vl_served u h = no_sub_link_endless net u (λ k l.
-      let four : k < 4 = omega (arith, (ranges.vl u (omega (arith, so_far.far))).sub_links_greatest) in
-      rw (place_vl net u k four, place_link net u k four) at (so_far.served (u * 4 + k) (omega arith)
-      (rw (place_vl net u k four, place_link net u k four) l)))
+module _ (net : Network) (ranges : Ranges net) (v k : ℕ) (queues : List ℕ) (so_far : QueuesTo net v k queues) where
+  module _ (row : v < length net.vls) (there : k < (vl_at net v).sublinks) where
+    four : k < 4
+    four = omega (arith, (ranges.vl v row).sub_links_greatest)
 
-  module _ (row : i < length net.vls * 4) where
-    -- the VL has no such sub-link: the zero there is its figure
-    pub queues_passed : (vl_at net (i / 4)).sublinks ≤ i % 4 → QueuesTo net (i + 1) queues
-    unfolding queue_at
-    queues_passed h = record {
-      far = omega arith;
-      noted_are = so_far.noted_are
-          ∙ sym (noted_zero (queue_at net) (limits.vls * 4) i (omega (arith, ranges.few_vls))
-          (rw (le-ltb (i % 4) (vl_at net (i / 4)).sublinks h)));
-      served = below_more (λ (j : ℕ). j % 4 < (vl_at net (j / 4)).sublinks → not (is_some (queue_length net (j / 4) (j % 4))) ≡ false) i
-          so_far.served (λ l. absurd (omega arith));
-    }
+    pub queues_more : (f : ℕ) → Some f ≡ if_busy (queue_length net v k) (queue_figure net v k) → QueuesTo net v (k + 1) (set queues (v * 4 + k) f)
+    queues_more f e =
+        let known = busy_given (queue_length net v k) (queue_figure net v k) f e in
+        record {
+          noted_are = ap (λ (qs : List ℕ). set qs (v * 4 + k) f) so_far.noted_are
+              ∙ noted_more (queue_at net) (limits.vls * 4) (v * 4 + k) f (omega (arith, ranges.few_vls, four))
+              (known.1 ∙ sym (queue_at_lem net v k four there))
+              ∙ ap (noted (queue_at net) (limits.vls * 4)) (omega arith);
+          served = so_far.served;
+          here = below_more (λ (j : ℕ). not (is_some (queue_length net v j)) ≡ false) k so_far.here (ap not known.0);
+        }
 
-    module _ (here : i % 4 < (vl_at net (i / 4)).sublinks) (o : Outcome) (is : QueueOf net (i / 4) (i % 4) o) where
-      pub queues_endless : (left : List ℕ) → o.endless ≡ true → QueuesDone net (i / 4) left
-      queues_endless left e = record {
-        first = record {
-          inside = omega arith;
-          before = λ u l. vl_served u (omega arith);
-          there = λ l. sub_link_endless net (i / 4) (i % 4) here (sym is.endless_is ∙ e);
-        };
-        queues_are = λ l. absurd (omega arith);
+    pub vl_endless : None ≡ if_busy (queue_length net v k) (queue_figure net v k) → is_some (endless_sub_link net v) ≡ true
+    vl_endless e = sub_link_endless net v k there (ap not (busy_none (queue_length net v k) (queue_figure net v k) e))
+
+  -- all sub-links of the VL: where it has no more, the zero there is the figure
+  pub queues_vl : v < length net.vls → k ≡ (vl_at net v).sublinks → QueuesTo net (v + 1) 0 queues
+  unfolding queue_at
+  queues_vl row all =
+      let few : k ≤ 4 = omega (arith, (ranges.vl v row).sub_links_greatest) in
+      record {
+        noted_are = so_far.noted_are
+            ∙ sym
+            (noted_zeros (queue_at net) (limits.vls * 4) (4 - k) (v * 4 + k) (omega (arith, ranges.few_vls))
+            (λ i a b.
+            let at_vl : i / 4 ≡ v = omega arith in
+            rw at_vl (rw (le-ltb (i % 4) (vl_at net v).sublinks (omega arith)))))
+            ∙ ap (noted (queue_at net) (limits.vls * 4)) (omega arith);
+        served = below_more (λ (u : ℕ). is_some (endless_sub_link net u) ≡ false) v so_far.served
+            (no_sub_link_endless net v (λ j l. so_far.here j (omega arith)));
+        here = λ j l. absurd (omega arith);
       }
 
-      pub queues_more : o.endless ≡ false → QueuesTo net (i + 1) (set queues i o.figure)
-      unfolding queue_at
-      queues_more e = record {
-        far = omega arith;
-        noted_are = ap (λ (qs : List ℕ). set qs i o.figure) so_far.noted_are
-            ∙ noted_more (queue_at net) (limits.vls * 4) i o.figure (omega (arith, ranges.few_vls))
-            (is.figure_is ∙ sym (rw (lt-ltb (i % 4) (vl_at net (i / 4)).sublinks here)));
-        served = below_more (λ (j : ℕ). j % 4 < (vl_at net (j / 4)).sublinks → not (is_some (queue_length net (j / 4) (j % 4))) ≡ false) i
-            so_far.served (λ l. sym is.endless_is ∙ e);
-      }
-
-  pub queues_all : length net.vls * 4 ≤ i → (n : ℕ) → n ≡ length net.vls → QueuesDone net n queues
-  unfolding queues_of
-  queues_all done n e = record {
-    first = record { inside = omega arith; before = λ u l. vl_served u (omega arith); there = λ l. absurd (omega arith) };
-    queues_are = λ l. so_far.noted_are ∙ ap (noted (queue_at net) (limits.vls * 4)) (omega (arith, so_far.far));
-  }
+pub queues_all : (net : Network) (v : ℕ) (queues : List ℕ) → QueuesTo net v 0 queues → v ≡ length net.vls → queues ≡ noted (queue_at net) (limits.vls * 4) (length net.vls * 4)
+queues_all net v queues all e = all.noted_are ∙ ap (noted (queue_at net) (limits.vls * 4)) (omega arith)

@@ -1,26 +1,26 @@
 -- The records that are read off a good sheet keep to their ranges and name rows that are there. One law for each kind of record, of a record that is the network's.
 -- Assumes nothing.
 use Prim.Native.Nat.{ℕ, ◌≤◌, ◌<◌}
-use mathlib.Core.List.{List}
 use mathlib.Core.Path.{◌≡◌, sym, ap, ◌∙◌}
 use native.Mathlib.Omega.{arith}
+use Rattle.std.specs.Prelude.{Option}
 use lib.ListN.{length}
 use Rattle.network.specs.declared.EndSystem.{EndSystem}
 use Rattle.network.specs.declared.Vl.{Vl}
 use Rattle.network.specs.declared.Stream.{Stream}
 use Rattle.network.specs.declared.Port.{Port}
 use Rattle.network.specs.declared.Hop.{Hop}
-use Rattle.network.specs.declared.Parent.{Parent}
-use Rattle.network.specs.Network.{Network, parent_in, system_at, vl_at, stream_at, port_at, hop_at, parent_at}
+use Rattle.network.specs.Network.{Network, system_at, vl_at, stream_at, port_at, hop_at, parent_at}
 use Rattle.network.specs.Ranges.{VlRange, StreamRange}
 use Rattle.sheet.specs.declared.Delays.{Delays}
+use Rattle.sheet.specs.declared.Sheet.{Sheet}
 use Rattle.sheet.specs.Sheet.{network_on, Good, delays_in}
 use Rattle.sheet.specs.Walks.{stream_row, hop_row}
 use Rattle.sheet.proofs.WalkLaws.{stream_row_lem, hop_row_lem}
 use Rattle.figures.specs.Computing.{DelayRange, PortRange, OnLink}
 use Rattle.figures.proofs.BoundLaws.{per_byte_bounds}
 
-module _ {sheet : List ℕ} (good : Good sheet) where
+module _ {sheet : Sheet} (good : Good sheet) where
   pub delays_range : {d : Delays} → d ≡ delays_in (network_on sheet) → DelayRange d
   delays_range is =
       let ranges = good.ranges in
@@ -91,5 +91,5 @@ module _ {sheet : List ℕ} (good : Good sheet) where
   hop_names {h} is row = rw is (good.references.hop_vl h row, good.references.hop_port h row)
 
 -- the parent of a hop that was read
-pub parent_read : (net : Network) (h : ℕ) {r : Hop} {x : Parent} → r ≡ hop_at net h → r.parent ≡ x → parent_at net h ≡ parent_in x
-parent_read net h is e = ap (λ (r : Hop). parent_in r.parent) (sym is) ∙ ap parent_in e
+pub parent_read : (net : Network) (h : ℕ) {r : Hop} {x : Option ℕ} → r ≡ hop_at net h → r.parent ≡ x → parent_at net h ≡ x
+parent_read net h is e = ap (λ (r : Hop). r.parent) (sym is) ∙ e

@@ -1,4 +1,4 @@
--- The contracts settle their answers and the lent lists: two runs that both satisfy them are the same.
+-- The contracts settle their answers and what is lent: two runs that both satisfy them are the same.
 -- Assumes nothing.
 use mathlib.Core.Path.{refl, sym, ◌∙◌}
 use Rattle.base.specs.Settles.{Settles}
@@ -6,8 +6,11 @@ use Rattle.figures.proofs.frames.line.Kinds as line-kinds
 use Rattle.figures.proofs.frames.line.Reads as line-reads
 use Rattle.figures.proofs.frames.packets.Kinds as packets-kinds
 use Rattle.figures.proofs.frames.packets.Reads as packets-reads
-use Rattle.figures.proofs.frames.less.Kinds as less-kinds
-use Rattle.figures.proofs.frames.less.Reads as less-reads
+use Rattle.table.proofs.RefusalLaws.{said_settles}
+use Rattle.figures.proofs.found.Figures.blank.Kinds as blank-kinds
+use Rattle.figures.proofs.found.Figures.blank.Reads as blank-reads
+use Rattle.figures.proofs.found.Figures.clear.Kinds as clear-kinds
+use Rattle.figures.proofs.found.Figures.clear.Reads as clear-reads
 use Rattle.figures.proofs.judging.figures.Kinds as figures-kinds
 use Rattle.figures.proofs.judging.figures.Reads as figures-reads
 
@@ -17,19 +20,29 @@ line_settles κs a x y ws vs p q = (p ∙ sym q, refl)
 pub packets_settles : Settles 0 packets-kinds.ps packets-kinds.r packets-reads.Post
 packets_settles κs a x y ws vs p q = (p ∙ sym q, refl)
 
-pub less_settles : Settles 0 less-kinds.ps less-kinds.r less-reads.Post
-less_settles κs a x y ws vs p q = (p ∙ sym q, refl)
+pub blank_settles : Settles 0 blank-kinds.ps blank-kinds.r blank-reads.Post
+blank_settles κs a x y ws vs p q = (p ∙ sym q, refl)
 
-pub figures_settles : Settles 5 figures-kinds.ps figures-kinds.r figures-reads.Post
+pub clear_settles : Settles 1 clear-kinds.ps clear-kinds.r clear-reads.Post
+clear_settles κs a x y ws vs p q = (refl, (λ i. ((p ∙ sym q) i, tt)))
+
+pub figures_settles : Settles 3 figures-kinds.ps figures-kinds.r figures-reads.Post
 figures_settles κs a x y ws vs p q = (
-  p.answer_is ∙ sym q.answer_is,
+  said_settles x y (p.answer_is ∙ sym q.answer_is),
   (λ i. (
     tt,
     (
       tt,
       (
-        (p.net_is ∙ sym q.net_is) i,
-        ((p.waits_are ∙ sym q.waits_are) i, ((p.queues_are ∙ sym q.queues_are) i, ((p.hops_are ∙ sym q.hops_are) i, tt))),
+        (p.sheet_is ∙ sym q.sheet_is) i,
+        (
+          record {
+            waits = (p.waits_are ∙ sym q.waits_are) i;
+            queues = (p.queues_are ∙ sym q.queues_are) i;
+            hops = (p.hops_are ∙ sym q.hops_are) i;
+          },
+          tt,
+        ),
       ),
     ),
   )),

@@ -3,18 +3,19 @@
 use Rattle.std.specs.Prelude.{ℕ, ◌*◌, ◌/◌, ◌%◌, List, ◌≡◌, ltb, length, replicate}
 use Rattle.base.specs.Pick.{pick}
 use Rattle.base.specs.Tabulate.{tabulate}
-use Rattle.layout.specs.Limits.{most}
-use Rattle.layout.specs.Sizes.{place}
+use Rattle.layout.specs.Limits.{most, limits}
 use Rattle.network.specs.Network.{Network, vl_at}
 use Rattle.table.specs.declared.Answer.{Answer}
 use Rattle.table.specs.Lists.{unpacked}
 use Rattle.table.specs.Unpack.{left}
 use Rattle.table.specs.Read.{network_in}
-use Rattle.sheet.specs.Sheet.{sheet_of}
+use Rattle.sheet.specs.declared.Sheet.{Sheet}
+use Rattle.sheet.specs.Sheet.{sheet_of, blank}
 use Rattle.rows.specs.Links.{mux_wait}
 use Rattle.rows.specs.Queues.{queue_figure}
 use Rattle.rows.specs.Ports.{figure_of}
 use Rattle.answers.specs.Analysis.{analysis_answer, accepts}
+use Rattle.figures.specs.declared.found.Figures.{Figures}
 
 unfoldable pub waits_of : Network → List ℕ
 waits_of net = tabulate (mux_wait net) (length net.vls)
@@ -29,11 +30,15 @@ queues_of net = tabulate (queue_at net) (length net.vls * 4)
 unfoldable pub hop_figures : Network → List ℕ
 hop_figures net = tabulate (figure_of net) (length net.hops)
 
+-- the figures of no network: zeros
+unfoldable pub no_figures : Figures
+no_figures = record { waits = replicate limits.vls 0; queues = replicate (limits.vls * 4) 0; hops = replicate limits.hops 0 }
+
 -- the answer 1 to 10 to a table and a lent result of `room` numbers; on acceptance the sheet of the table and its figures, and
 -- "Each refusal leaves every lent result all zero; an acceptance leaves zero after what it wrote."
-pub record Figured (bytes : List ℕ) (room : ℕ) (r : Answer) (net waits queues hops : List ℕ) : Type 0 where
+pub record Figured (bytes : List ℕ) (room : ℕ) (r : Answer) (sheet : Sheet) (found : Figures) : Type 0 where
   pub answer_is : r ≡ analysis_answer bytes room
-  pub net_is : net ≡ pick (accepts bytes room) (sheet_of (unpacked bytes)) (replicate (place 6) 0)
-  pub waits_are : waits ≡ left (accepts bytes room) (most 2) (waits_of (network_in bytes))
-  pub queues_are : queues ≡ left (accepts bytes room) (most 2 * 4) (queues_of (network_in bytes))
-  pub hops_are : hops ≡ left (accepts bytes room) (most 5) (hop_figures (network_in bytes))
+  pub sheet_is : sheet ≡ pick (accepts bytes room) (sheet_of (unpacked bytes)) blank
+  pub waits_are : found.waits ≡ left (accepts bytes room) (most 2) (waits_of (network_in bytes))
+  pub queues_are : found.queues ≡ left (accepts bytes room) (most 2 * 4) (queues_of (network_in bytes))
+  pub hops_are : found.hops ≡ left (accepts bytes room) (most 5) (hop_figures (network_in bytes))

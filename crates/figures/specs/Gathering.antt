@@ -1,13 +1,12 @@
--- The flow of a stream, and what the station said of the flows of a queue or a port. Nothing here has to be believed.
+-- The flow of a stream, and the figure of the flows of a queue or a port. Nothing here has to be believed.
 -- Assumes nothing.
-use Rattle.std.specs.Prelude.{◌+◌, ◌-◌, ◌*◌, not, List, ◌≡◌}
-use Rattle.base.specs.Tests.{is_some, number_or0}
+use Rattle.std.specs.Prelude.{ℕ, ◌+◌, ◌-◌, ◌*◌, List, Option, None, Some}
+use Rattle.base.specs.Tests.{number_or0}
 use Rattle.frame.specs.Packets.{packets}
 use Rattle.network.specs.declared.Vl.{Vl}
 use Rattle.network.specs.declared.Stream.{Stream}
 use Rattle.station.specs.Station.{Flow, busy_length, figure}
 use Rattle.sheet.specs.declared.Delays.{Delays}
-use Rattle.figures.specs.declared.flows.Outcome.{Outcome}
 
 -- the flow of a stream of a VL
 abbrev pub flow_of : Delays → Stream → Vl → Flow
@@ -17,7 +16,11 @@ flow_of d stream vl = record {
   cost = packets stream.size vl.lmax * vl.sublinks * vl.gap;
 }
 
--- what the station says of flows: whether they have no busy length, and their figure, 0 without one
-pub record Found (fs : List Flow) (r : Outcome) : Type 0 where
-  pub endless_is : r.endless ≡ not (is_some (busy_length fs))
-  pub figure_is : r.figure ≡ figure fs (number_or0 (busy_length fs))
+-- a figure where there is a busy length, and none where there is none
+unfoldable pub if_busy : Option ℕ → ℕ → Option ℕ
+if_busy None f = None
+if_busy (Some l) f = Some f
+
+-- the figure of flows, where they have a busy length
+unfoldable pub figure_in : List Flow → Option ℕ
+figure_in fs = if_busy (busy_length fs) (figure fs (number_or0 (busy_length fs)))

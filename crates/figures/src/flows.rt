@@ -1,50 +1,67 @@
-// The flows of a queue or a port, three numbers a flow in one lent list, and what the station says of them.
-// A list is lent and not handed over, so that a port of few flows costs no more than those.
-ghost use Rattle.std.specs.Prelude.{[], ◌∷◌, ◌++◌, ◌≡◌, true, ◌<◌, ◌+◌, ◌*◌, length};
-ghost use Rattle.station.specs.Offered.{offered};
-ghost use Rattle.station.specs.Flat.{flows_in};
-ghost use Rattle.figures.specs.Gathering.{Found};
+// The flows of a queue or a port, gathered for the station.
+// The list is lent and not handed over, so that a port of few flows costs no more than those.
+ghost use Rattle.std.specs.Prelude.{◌≡◌, ◌≤◌, ◌<◌, ◌∷◌, [], ◌++◌, List, length, take, true};
+ghost use Rattle.station.specs.declared.TheConstants.{MOST_FLOWS};
+ghost use Rattle.station.specs.Station.{Flow as FlowIs};
+ghost use Rattle.station.specs.Offered.{most_flows, offered};
+ghost use Rattle.figures.specs.Gathering.{figure_in};
 
-use station::{Answer, Flow, MOST_FLOWS};
+use station::{Flow, MOST_FLOWS};
+use std::marker::Model;
 
-// Three numbers for each of the most flows that the station takes. A queue has at most as many flows as there are streams, a port as
-// there are VLs.
-pub const FLOWS: usize = MOST_FLOWS * 3;
+const NO_FLOW: Flow = Flow {
+    period: 0,
+    jitter: 0,
+    cost: 0,
+};
 
-// What the station says of flows: that they have no busy length, or their figure.
-#[derive(Clone, Copy)]
-pub struct Outcome {
-    pub endless: bool,
-    pub figure: u64,
+// A queue has at most as many flows as there are streams, a port as there are VLs, and the station takes as many.
+#[derive(Drop)]
+pub struct Flows {
+    list: [Flow; MOST_FLOWS],
+    count: usize,
 }
 
-// Puts a flow behind the first i: how many they are with it.
-pub fn put_flow(flows: &mut [u64], i: usize, f: Flow) -> usize
-    requires { i * 3 + 2 < length flows.old }
-    ensures { flows_in flows.new result ≡ flows_in flows.old i ++ (f ∷ []) }
-{
-    flows[i * 3] = f.period;
-    flows[i * 3 + 1] = f.jitter;
-    flows[i * 3 + 2] = f.cost;
-    i + 1
+impl Model for Flows {
+    ghost Value = { List FlowIs };
+
+    ghost view = { λ f. take f.count f.list };
+
+    ghost invariant = { λ f. f.count ≤ MOST_FLOWS };
 }
 
-pub fn served(flows: &[u64; FLOWS], count: usize) -> Outcome
-    requires { offered (flows_in flows.now count) ≡ true }
-    ensures { Found (flows_in flows.now count) result }
-{
-    match station::station_in(flows, count) {
-        Answer::Served { length, figure } => Outcome {
-            endless: false,
-            figure: figure,
-        },
-        Answer::OutOfRange => Outcome {
-            endless: true,
-            figure: 0,
-        },
-        Answer::Endless => Outcome {
-            endless: true,
-            figure: 0,
-        },
+impl Flows {
+    pub fn none() -> Flows
+        ensures { result ≡ [] }
+    {
+        Flows {
+            list: [NO_FLOW; MOST_FLOWS],
+            count: 0,
+        }
+    }
+
+    pub fn clear(&mut self)
+        ensures { self.new ≡ [] }
+    {
+        self.count = 0;
+    }
+
+    pub fn push(&mut self, flow: Flow)
+        requires { length self.old < most_flows }
+        ensures { self.new ≡ self.old ++ flow ∷ [] }
+    {
+        self.list[self.count] = flow;
+        self.count += 1;
+    }
+
+    // The station's figure of them, where they have a busy length.
+    pub fn figure(&self) -> Option<u64>
+        requires { offered self.now ≡ true }
+        ensures { result ≡ figure_in self.now }
+    {
+        match station::station(&self.list[..self.count]) {
+            Ok(busy) => Some(busy.figure),
+            Err(_) => None,
+        }
     }
 }

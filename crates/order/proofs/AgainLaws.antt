@@ -14,13 +14,11 @@ use Rattle.base.proofs.TabulateLaws.{tabulate_at}
 use Rattle.bits.specs.Bits.{Bytes}
 use Rattle.layout.specs.Rows.{listed}
 use Rattle.table.specs.declared.Answer.{Answer}
-use Rattle.table.specs.declared.Unpacked.{Unpacked}
-use Rattle.table.specs.declared.Written.{Written}
 use Rattle.table.specs.Answers.{accepted}
 use Rattle.table.specs.Sections.{rows, lent}
-use Rattle.table.specs.Unpack.{unpack_answer, unpacks, left, counted, Unpacks}
+use Rattle.table.specs.Unpack.{Unpacked, unpack_answer, unpacks, left, counted, Unpacks}
 use Rattle.table.specs.Lists.{Lists, lists_by, list_for, unpacked}
-use Rattle.table.specs.Write.{packed, write_answer, writes, Writes}
+use Rattle.table.specs.Write.{Written, packed, write_answer, writes, Writes}
 use Rattle.table.specs.RoundTrip.{RoomFor}
 use Rattle.table.proofs.ListsLaws.{list_by, lists_same}
 use Rattle.table.proofs.UnpackLaws.{list_is, length_list, length_header}

@@ -5,7 +5,7 @@ use mathlib.Core.Bool.{Bool, true, false, ◌&&◌, true≢false, not, and-eq-tr
 use mathlib.Core.List.{List, [], ◌∷◌, Memᴰ}
 use mathlib.Core.Logic.Iff
 use mathlib.Core.Logic.{◌↔◌}
-use mathlib.Core.Option.{Option, none, some}
+use Rattle.std.specs.Prelude.{Option, None, Some}
 use mathlib.Core.Path.{◌≡◌, refl, sym, ap, ap₂, ◌∙◌}
 use native.Mathlib.Omega.{arith}
 use borrow.Author.Tests.{eqb-true, not-true}
@@ -106,8 +106,8 @@ flows_of net refs p figure_at jitter_at lower = port_flows_same net jitter_at (j
       where
         go : ((g : ℕ) → g < length net.hops → (hop_at net g).port < n → n ≤ suc p → jitter_at g ≡ jitter_of net g)
             → (o : Option ℕ) → parent_at net h ≡ o → jitter_at h ≡ jitter_of net h
-        go ih none e = lower.root_is h l (omega arith) e ∙ sym ((figures_of net refs).root_is h l e)
-        go ih (some g) e =
+        go ih None e = lower.root_is h l (omega arith) e ∙ sym ((figures_of net refs).root_is h l e)
+        go ih (Some g) e =
             let row : g < length net.hops = omega (arith, refs.parent_earlier_says h g l e) in
             let low = refs.parent_port h g l e in
             lower.child_is h g l (omega arith) e
@@ -142,31 +142,31 @@ module _ (test : ℕ → Bool) (Is : ℕ → Type 0) (same : (i : ℕ) → (test
       go true e = absurd (never ((same i).0 e))
       go false e = refl
 
-  first_of_lem : (i : ℕ) → (least_from test 0 n ≡ some i) ↔ FirstOf Is n i
+  first_of_lem : (i : ℕ) → (least_from test 0 n ≡ Some i) ↔ FirstOf Is n i
   first_of_lem i = (
     λ e. (let was = least_was test 0 n i e in
         record { row = omega (arith, was.high); here = (same i).0 was.passes; not_before = λ j h. is_not j (was.fails j (omega arith) h) }),
     λ f. least_is test 0 n i (omega arith) (omega (arith, f.row)) ((same i).1 f.here) (λ j a b. not_so j (f.not_before j b)),
   )
 
-  none_of : (least_from test 0 n ≡ none) ↔ NoneOf Is n
+  none_of : (least_from test 0 n ≡ None) ↔ NoneOf Is n
   none_of = (λ e i h. is_not i (none_was test 0 n i e (omega arith) (omega arith)), λ f. least_none test 0 n (λ i a b. not_so i (f i (omega arith))))
 
 module _ (net : Network) (longest : net.tick.longest ≡ 125000000) where
-  first_vl_lem : (v : ℕ) → (endless_vl net ≡ some v) ↔ FirstVl net v
+  first_vl_lem : (v : ℕ) → (endless_vl net ≡ Some v) ↔ FirstVl net v
   unfolding endless_vl
   first_vl_lem = first_of_lem (λ v. is_some (endless_sub_link net v)) (EndlessQueue net) (λ v. endless_queue net v longest) (length net.vls)
 
-  no_vl_lem : (endless_vl net ≡ none) ↔ NoVl net
+  no_vl_lem : (endless_vl net ≡ None) ↔ NoVl net
   unfolding endless_vl
   no_vl_lem = none_of (λ v. is_some (endless_sub_link net v)) (EndlessQueue net) (λ v. endless_queue net v longest) (length net.vls)
 
   module _ (refs : References net) where
-    first_port : (p : ℕ) → (endless_port net ≡ some p) ↔ FirstPort net p
+    first_port : (p : ℕ) → (endless_port net ≡ Some p) ↔ FirstPort net p
     unfolding endless_port
     first_port = first_of_lem (endless net) (EndlessPort net) (endless_port_lem net longest refs) (length net.ports)
 
-    no_port_lem : (endless_port net ≡ none) ↔ NoPort net
+    no_port_lem : (endless_port net ≡ None) ↔ NoPort net
     unfolding endless_port
     no_port_lem = none_of (endless net) (EndlessPort net) (endless_port_lem net longest refs) (length net.ports)
 
@@ -177,32 +177,32 @@ last vl port = first_given (refused_at 9 2 vl ∷ refused_at 10 4 port ∷ [])
 numbers : {a b : Answer} → a ≡ b → a.number ≡ b.number
 numbers e = ap (λ (a : Answer). a.number) e
 
-last_9 : (vl port : Option ℕ) (v : ℕ) → (last vl port ≡ answer 9 2 v 0) ↔ (vl ≡ some v)
+last_9 : (vl port : Option ℕ) (v : ℕ) → (last vl port ≡ answer 9 2 v 0) ↔ (vl ≡ Some v)
 unfolding first_given refused_at
 last_9 vl port v = (was vl port, λ e. ap (λ (o : Option ℕ). last o port) e)
   where
-    was : (vl port : Option ℕ) → last vl port ≡ answer 9 2 v 0 → vl ≡ some v
-    was (some i) port e = ap (λ (a : Answer). some a.row) e
-    was none (some i) e = absurd (omega (arith, numbers e))
-    was none none e = absurd (omega (arith, numbers e))
+    was : (vl port : Option ℕ) → last vl port ≡ answer 9 2 v 0 → vl ≡ Some v
+    was (Some i) port e = ap (λ (a : Answer). Some a.row) e
+    was None (Some i) e = absurd (omega (arith, numbers e))
+    was None None e = absurd (omega (arith, numbers e))
 
-last_10 : (vl port : Option ℕ) (p : ℕ) → (last vl port ≡ answer 10 4 p 0) ↔ ((vl ≡ none) × (port ≡ some p))
+last_10 : (vl port : Option ℕ) (p : ℕ) → (last vl port ≡ answer 10 4 p 0) ↔ ((vl ≡ None) × (port ≡ Some p))
 unfolding first_given refused_at
 last_10 vl port p = (was vl port, λ e. ap₂ last e.0 e.1)
   where
-    was : (vl port : Option ℕ) → last vl port ≡ answer 10 4 p 0 → (vl ≡ none) × (port ≡ some p)
-    was (some i) port e = absurd (omega (arith, numbers e))
-    was none (some i) e = (refl, ap (λ (a : Answer). some a.row) e)
-    was none none e = absurd (omega (arith, numbers e))
+    was : (vl port : Option ℕ) → last vl port ≡ answer 10 4 p 0 → (vl ≡ None) × (port ≡ Some p)
+    was (Some i) port e = absurd (omega (arith, numbers e))
+    was None (Some i) e = (refl, ap (λ (a : Answer). Some a.row) e)
+    was None None e = absurd (omega (arith, numbers e))
 
-last_accepted : (vl port : Option ℕ) → (last vl port ≡ accepted) ↔ ((vl ≡ none) × (port ≡ none))
+last_accepted : (vl port : Option ℕ) → (last vl port ≡ accepted) ↔ ((vl ≡ None) × (port ≡ None))
 unfolding first_given refused_at
 last_accepted vl port = (was vl port, λ e. ap₂ last e.0 e.1)
   where
-    was : (vl port : Option ℕ) → last vl port ≡ accepted → (vl ≡ none) × (port ≡ none)
-    was (some i) port e = absurd (omega (arith, numbers e))
-    was none (some i) e = absurd (omega (arith, numbers e))
-    was none none e = (refl, refl)
+    was : (vl port : Option ℕ) → last vl port ≡ accepted → (vl ≡ None) × (port ≡ None)
+    was (Some i) port e = absurd (omega (arith, numbers e))
+    was None (Some i) e = absurd (omega (arith, numbers e))
+    was None None e = (refl, refl)
 
 -- behind 1 to 8 they are the answer
 module _ (bytes : List ℕ) (room : ℕ) (passed : Passed bytes room) where
@@ -243,6 +243,6 @@ unfolding first_given refused_at
 exact_three bytes room passed = go (endless_vl (network_in bytes)) (endless_port (network_in bytes)) (behind_8 bytes room passed)
   where
     go : (vl port : Option ℕ) → analysis_answer bytes room ≡ last vl port → OneOfThree bytes room
-    go (some v) port e = is_9 v e
-    go none (some p) e = is_10 p e
-    go none none e = is_accepted e
+    go (Some v) port e = is_9 v e
+    go None (Some p) e = is_10 p e
+    go None None e = is_accepted e

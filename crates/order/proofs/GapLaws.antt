@@ -2,7 +2,7 @@
 -- Assumes nothing.
 use Prim.Native.Nat.{ℕ, ◌*◌, ◌%◌, ◌^◌, ◌<◌}
 use mathlib.Core.List.{List}
-use mathlib.Core.Option.{some}
+use Rattle.std.specs.Prelude.{Some}
 use mathlib.Core.Path.{◌≡◌}
 use native.Mathlib.Omega.{arith}
 use lib.Dec.{eqb, eqb→eq}
@@ -38,12 +38,12 @@ evenly code h = eqb→eq (cycle % (per_ms * 2 ^ code)) 0 (at (λ k. eqb (cycle %
 
 -- what the code that is stored for VL v means, in milliseconds
 meant : (bytes : List ℕ) → Sound bytes → (v : ℕ) → v < rows bytes 2
-    → ms_of (named 2 (row bytes 2 v) name.Gap) ≡ some (named 2 (converted Reading (layout (kind_in bytes 2)) (row bytes 2 v)) name.Gap)
+    → ms_of (named 2 (row bytes 2 v) name.Gap) ≡ Some (named 2 (converted Reading (layout (kind_in bytes 2)) (row bytes 2 v)) name.Gap)
 unfolding named index_in number_of layout_in
 meant bytes sound v h = gap_meant (version bytes) (row bytes 2 v) (sound_rows bytes sound 2 v (omega arith) h)
 
 of_vl_says : (bytes : List ℕ) → read_answer bytes ≡ accepted → (v : ℕ) → v < length (network_in bytes).vls
-    → gap_of (named 2 (row bytes 2 v) name.Gap) ≡ some (vl_at (network_in bytes) v).gap
+    → gap_of (named 2 (row bytes 2 v) name.Gap) ≡ Some (vl_at (network_in bytes) v).gap
 unfolding network_in vl_in
 of_vl_says bytes e v h =
     let there = vls_are (unpacked bytes) in

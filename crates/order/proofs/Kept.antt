@@ -13,14 +13,12 @@ use types.Logic.{Logic}
 use contract.Monad.{fact, fact_i}
 use contract.Running.{Running}
 use Rattle.table.specs.declared.Answer.{Answer}
-use Rattle.table.specs.declared.Unpacked.{Unpacked}
-use Rattle.table.specs.declared.Written.{Written}
-use Rattle.table.specs.Unpack.{Unpacks}
 use Rattle.table.specs.Lists.{Lists}
-use Rattle.table.specs.Write.{Writes}
+use Rattle.table.specs.Refusals.{said}
+use Rattle.table.specs.Unpack.{Unpacked, unpacked_by, Unpacks}
+use Rattle.table.specs.Write.{Written, written_by, Writes}
 use Rattle.table.specs.Read.{read_answer}
-use Rattle.analysis.specs.declared.Analysed.{Analysed}
-use Rattle.analysis.specs.Analysis.{Analyses}
+use Rattle.analysis.specs.Analysis.{Analysed, analysed_by, Analyses}
 use Rattle.analysis.proofs.analyse.Met.{met as analyse_met}
 use Rattle.reader.proofs.check.Met.{met as check_met}
 use Rattle.unpacker.proofs.unpack.Met.{met as unpack_met}
@@ -69,14 +67,14 @@ pub kept : {M : Type 1} {𝓤 : Ura M} (𝓛 : Logic 𝓤) (𝓜 : Model 𝓤 �
 kept {𝓤 = 𝓤} 𝓛 𝓜 𝓡 = record {
   analyse_meets = analyse_met 𝓤 𝓛 𝓜 𝓡;
   analyse_asks_nothing = λ κs a. (tt, λ m. tt);
-  analyse_promises = λ κs a g x ws m. fact_is 𝓤 (AnalysePromise κs a x ws) (analyses_prop a.0.now (length a.1.0.now) x ws.1.0) m;
+  analyse_promises = λ κs a g x ws m. fact_is 𝓤 (AnalysePromise κs a x ws) (analyses_prop a.0.now (length a.1.0.now) (analysed_by x) ws.1.0) m;
   check_meets = check_met 𝓤 𝓛 𝓜 𝓡;
   check_asks_nothing = λ κs a. (tt, λ m. tt);
-  check_promises = λ κs a g x ws m. fact_is 𝓤 (CheckPromise κs a x ws) (answer_set x (read_answer a.0.now)) m;
+  check_promises = λ κs a g x ws m. fact_is 𝓤 (CheckPromise κs a x ws) (answer_set (said x) (read_answer a.0.now)) m;
   unpack_meets = unpack_met 𝓤 𝓛 𝓜 𝓡;
   unpack_asks_nothing = λ κs a. (tt, λ m. tt);
-  unpack_promises = λ κs a g x ws m. fact_is 𝓤 (UnpackPromise κs a x ws) (unpacks_prop _ _ x _) m;
+  unpack_promises = λ κs a g x ws m. fact_is 𝓤 (UnpackPromise κs a x ws) (unpacks_prop _ _ (unpacked_by x) _) m;
   write_meets = write_met 𝓤 𝓛 𝓜 𝓡;
   write_asks_nothing = λ κs a. (tt, λ m. tt);
-  write_promises = λ κs a g x ws m. fact_is 𝓤 (WritePromise κs a x ws) (writes_prop _ _ x _) m;
+  write_promises = λ κs a g x ws m. fact_is 𝓤 (WritePromise κs a x ws) (writes_prop _ _ (written_by x) _) m;
 }

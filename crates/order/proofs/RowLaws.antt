@@ -5,7 +5,7 @@ use mathlib.Core.Bool.{Bool, true, false, false≢true, ◌&&◌, and-eq-true_if
 use mathlib.Core.List.Memᴰ
 use mathlib.Core.List.{List, [], ◌∷◌, ◌++◌, map, Memᴰ}
 use mathlib.Core.Logic.{⊎_elim}
-use mathlib.Core.Option.{Option, none, some}
+use Rattle.std.specs.Prelude.{Option, None, Some}
 use mathlib.Core.Path.{◌≡◌, refl, sym, ap, ◌∙◌, subst}
 use native.Mathlib.Nat.{eq-or-lt_of_le, le_of_suc-le-suc}
 use native.Mathlib.Omega.{arith}
@@ -76,15 +76,15 @@ module _ (net : Network) where
       ((and-eq-true_iff (eqb (hop_at net h).vl v) (leaf net h)).1 (eq-eqb (hop_at net h).vl v e, t))
 
   -- ---- a hop that is no leaf is the parent of another
-  parent_was : (h : ℕ) (o : Option ℕ) → is_parent h o ≡ true → o ≡ some h
+  parent_was : (h : ℕ) (o : Option ℕ) → is_parent h o ≡ true → o ≡ Some h
   unfolding is_parent
-  parent_was h none e = absurd (false≢true e)
-  parent_was h (some g) e = ap some (eqb-true g h e)
+  parent_was h None e = absurd (false≢true e)
+  parent_was h (Some g) e = ap Some (eqb-true g h e)
 
   record Child (h : ℕ) : Type 0 where
     at : ℕ
     row : at < length net.hops
-    parent : parent_at net at ≡ some h
+    parent : parent_at net at ≡ Some h
 
   child_of : (h : ℕ) → leaf net h ≡ false → Child h
   unfolding leaf

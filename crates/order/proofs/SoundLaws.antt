@@ -4,7 +4,7 @@ use Prim.Native.Nat.{ℕ, ◌≤◌, ◌<◌}
 use mathlib.Core.Bool.{false, not}
 use mathlib.Core.List.{List}
 use mathlib.Core.Logic.{⊎_elim}
-use mathlib.Core.Option.{Option, none}
+use Rattle.std.specs.Prelude.{Option, None}
 use mathlib.Core.Path.{◌≡◌, sym, ◌∙◌}
 use native.Mathlib.Omega.{arith}
 use borrow.Author.Tests.{not-false}
@@ -37,13 +37,13 @@ has o e = record { length = number_or0 o; is = is_some_was o (not-false (is_some
 
 module _ (net : Network) where
   -- ---- 7
-  in_time_lem : net.tick ≡ in_force → late_system net ≡ none → (e : ℕ) → e < length net.systems → send_sum net e ≤ 5750
+  in_time_lem : net.tick ≡ in_force → late_system net ≡ None → (e : ℕ) → e < length net.systems → send_sum net e ≤ 5750
   unfolding late_system
   in_time_lem rules none7 e h =
       sends_in_time_was (send_sum net e)
       (not-false (sends_in_time (send_sum net e)) (sym (late_by_rules net rules e) ∙ none_was (sends_late net) 0 (length net.systems) e none7 (omega arith) (omega arith)))
 
-  sound : Ranges net → References net → late_system net ≡ none → Sound net
+  sound : Ranges net → References net → late_system net ≡ None → Sound net
   sound ranges refs none7 = record {
     references = refs;
     send = ranges.send_least_lem;
@@ -61,7 +61,7 @@ module _ (net : Network) where
   }
 
   -- ---- 9 and 10
-  busy : References net → endless_vl net ≡ none → endless_port net ≡ none → Busy net
+  busy : References net → endless_vl net ≡ None → endless_port net ≡ None → Busy net
   unfolding endless_vl endless_sub_link endless_port endless
   busy refs none9 none10 = record {
     queue = λ s h.

@@ -81,11 +81,11 @@ in_reader = reader.wiring world refl in_frame in_sheet in_unpacker
 
 in_figures : figures.Wiring world
 unfolding world
-in_figures = figures.wiring world refl in_frame in_reader in_sheet in_station in_unpacker
+in_figures = figures.wiring world refl in_frame in_reader in_search in_sheet in_station in_unpacker
 
 in_analysis : analysis.Wiring world
 unfolding world
-in_analysis = analysis.wiring world refl in_figures in_sheet in_unpacker
+in_analysis = analysis.wiring world refl in_figures in_search in_sheet in_unpacker
 
 in_writer : writer.Wiring world
 unfolding world

@@ -3,7 +3,7 @@
 use Prim.Native.Nat.{ℕ, zero, suc, ◌≤◌, ◌<◌}
 use mathlib.Core.Bool.{Bool, false, not}
 use mathlib.Core.List.{List, [], ◌∷◌}
-use mathlib.Core.Option.{Option, none}
+use Rattle.std.specs.Prelude.{Option, None}
 use mathlib.Core.Path.{◌≡◌, refl, sym, ap, ◌∙◌}
 use native.Mathlib.Omega.{arith}
 use borrow.Author.Tests.{le-ltb}
@@ -39,9 +39,8 @@ use Rattle.rows.specs.Queues.{queue_length}
 use Rattle.rows.specs.Ports.{port_length, jitter_of}
 use Rattle.rows.specs.Rows.{rows_of}
 use Rattle.rows.specs.Refusals.{sends_late, late_system, too_many_rows, too_short, endless_sub_link, endless_vl, endless, endless_port}
-use Rattle.analysis.specs.declared.Analysed.{Analysed}
 use Rattle.answers.specs.Analysis.{refused_at, answer7, answer8, answer9, answer10, refusals, analysis_answer, joined, rows_left, rows_given}
-use Rattle.analysis.specs.Analysis.{Analyses}
+use Rattle.analysis.specs.Analysis.{Analysed, Analyses}
 use Rattle.machine.specs.Sound.{Has}
 use Rattle.machine.proofs.Whole.{whole, busy}
 use Rattle.machine.proofs.Whole as Machine
@@ -55,51 +54,51 @@ pub network_is : network_in table ≡ whole
 unfolding network_in network_at system_in vl_in stream_in port_in hop_in ticks_at parent_of records_in list_for tabulate per_ms per_byte per_unit unpacked header_of records record_of row start rows header_row row_at row_room read_all field_at bit_at digit widths layout_in size total converted convert meaning listed listed_in is_padding number_or0 ms_of index_in number_of version kind_of kinds_of named
 network_is = refl
 
-none_1 : answer1 table ≡ none
+none_1 : answer1 table ≡ None
 unfolding answer1
 none_1 = refl
 
-none_2 : answer2 table ≡ none
+none_2 : answer2 table ≡ None
 unfolding answer2 row_fault_in field_tests order_tests orders first_failing least_from is_some convert meaning header_row row_at row_room read_all field_at bit_at digit widths layout_in size total index_in number_of version kind_of kinds_of named
 none_2 = refl
 
-none_3 : answer3 table ≡ none
+none_3 : answer3 table ≡ None
 unfolding answer3 start rows header_row row_at row_room read_all field_at bit_at digit widths layout_in size total version kind_of kinds_of named index_in number_of
 none_3 = refl
 
-none_4 : answer4 table ≡ none
+none_4 : answer4 table ≡ None
 unfolding answer4 bad_section bad_row row_fault_in field_tests order_tests orders first_failing least_from is_some convert meaning ms_of row start rows header_row row_at row_room read_all field_at bit_at digit widths layout_in size total index_in number_of version kind_of kinds_of named
 none_4 = refl
 
 -- ---- the network
-references_good : bad_ref_section whole ≡ none
+references_good : bad_ref_section whole ≡ None
 unfolding bad_ref_section bad_reference References.naming_rows ref_fault vl_tests stream_tests hop_tests names_system has_hop stream_names_vl names_sub_link hop_names_vl names_port parent_earlier parent_same_vl parent_lower_port of_parent no_earlier_twin twin_of not_too_deep route_longer least_from is_some first_failing
 references_good = refl
 
-none_5 : answer5 (network_in table) ≡ none
+none_5 : answer5 (network_in table) ≡ None
 unfolding answer5
 none_5 = rw (network_is, references_good, answer5)
 
-samples_good : bad_sample whole ≡ none
+samples_good : bad_sample whole ≡ None
 unfolding bad_sample one_sample least_from packets number_or0 carried most_fragment full_fragment udp_header
 samples_good = refl
 
-none_6 : answer6 (network_in table) ≡ none
+none_6 : answer6 (network_in table) ≡ None
 unfolding answer6
 none_6 = rw (network_is, samples_good, answer6)
 
-in_time_lem : late_system whole ≡ none
+in_time_lem : late_system whole ≡ None
 unfolding late_system sends_late in_time send_base send_limit send_sum vls_of send_most most_ticks line_ticks on_line largest_line line_overhead total passing least_from
 in_time_lem = refl
 
-none_7 : answer7 (network_in table) ≡ none
+none_7 : answer7 (network_in table) ≡ None
 unfolding answer7 refused_at
 none_7 = rw (network_is, in_time_lem)
 
 rows_are : rows_of (network_in table) ≡ (0 ∷ 0 ∷ 12500 ∷ 19398 ∷ 2043 ∷ 17355 ∷ []) ∷ (1 ∷ 1 ∷ 0 ∷ 6898 ∷ 2043 ∷ 5855 ∷ []) ∷ []
 rows_are = ap rows_of network_is ∙ Machine.rows
 
-none_8 : (room : ℕ) → 12 ≤ room → answer8 (network_in table) room ≡ none
+none_8 : (room : ℕ) → 12 ≤ room → answer8 (network_in table) room ≡ None
 unfolding answer8 too_many_rows too_short
 none_8 room h = rw (rows_are, le-ltb room 12 h)
 
@@ -108,27 +107,27 @@ not_endless : (o : Option ℕ) → Has o → not (is_some o) ≡ false
 not_endless o has = ap not (some_is o has.length has.is)
 
 -- where there is but one row
-none_of_one : (p : ℕ → Bool) → p 0 ≡ false → least_from p 0 1 ≡ none
+none_of_one : (p : ℕ → Bool) → p 0 ≡ false → least_from p 0 1 ≡ None
 none_of_one p e = least_none p 0 1 (λ i low high. let first : i ≡ 0 = omega arith in ap p first ∙ e)
 
-no_endless_queue : endless_vl whole ≡ none
+no_endless_queue : endless_vl whole ≡ None
 unfolding endless_vl endless_sub_link
 no_endless_queue = no_row (endless_sub_link whole) 0 2 by_vl
   where
-    by_vl : (v : ℕ) → 0 ≤ v → v < 2 → endless_sub_link whole v ≡ none
+    by_vl : (v : ℕ) → 0 ≤ v → v < 2 → endless_sub_link whole v ≡ None
     by_vl zero low high = none_of_one (λ k. not (is_some (queue_length whole 0 k))) (not_endless (queue_length whole 0 0) (busy.queue 0 (omega arith)))
     by_vl (suc zero) low high = none_of_one (λ k. not (is_some (queue_length whole 1 k))) (not_endless (queue_length whole 1 0) (busy.queue 1 (omega arith)))
     by_vl (suc (suc v)) low high = absurd (omega arith)
 
-none_9 : answer9 (network_in table) ≡ none
+none_9 : answer9 (network_in table) ≡ None
 unfolding answer9 refused_at
 none_9 = rw (network_is, no_endless_queue)
 
-no_endless_port : endless_port whole ≡ none
+no_endless_port : endless_port whole ≡ None
 unfolding endless_port endless
 no_endless_port = none_of_one (endless whole) (not_endless (port_length whole (jitter_of whole) 0) (busy.port 0 (omega arith)))
 
-none_10 : answer10 (network_in table) ≡ none
+none_10 : answer10 (network_in table) ≡ None
 unfolding answer10 refused_at
 none_10 = rw (network_is, no_endless_port)
 

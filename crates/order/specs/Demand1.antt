@@ -1,18 +1,16 @@
 -- The order, demand 1: "The software takes every table offered, damaged ones as well, and ends. It refuses by number, section and row as
 -- document 01 lists, and on a refusal every result place lent to it holds zero. It never relies on the caller having looked first."
--- No public routine has a `requires`, and each is proved to end and to leave what its promise says (Kept): `Analyses`, `Unpacks`, `Writes`,
--- and for the reader `read_answer`. Here is what the promises say of refusals. Assumes nothing.
+-- No routine over the bytes of a table has a `requires`, and each is proved to end and to leave what its promise says (Kept): `Analyses`, `Unpacks`, `Writes`,
+-- and for the reader `read_answer`. Here is what the promises say of refusals; `r` is what the routine's result says, as in Kept.
+-- Assumes nothing.
 use Rattle.std.specs.Prelude.{ℕ, ◌<◌, List, ◌≡◌, length, replicate}
 use Rattle.table.specs.declared.Answer.{Answer}
-use Rattle.table.specs.declared.Unpacked.{Unpacked}
-use Rattle.table.specs.declared.Written.{Written}
-use Rattle.table.specs.Unpack.{unpack_answer, counted, Unpacks}
+use Rattle.table.specs.Unpack.{Unpacked, unpack_answer, counted, Unpacks}
 use Rattle.table.specs.Lists.{Lists, list_for}
-use Rattle.table.specs.Write.{write_answer, Writes}
+use Rattle.table.specs.Write.{Written, write_answer, Writes}
 use Rattle.table.specs.Read.{read_answer}
-use Rattle.analysis.specs.declared.Analysed.{Analysed}
 use Rattle.answers.specs.Analysis.{analysis_answer}
-use Rattle.analysis.specs.Analysis.{Analyses}
+use Rattle.analysis.specs.Analysis.{Analysed, Analyses}
 
 -- the analysis of a table, with a lent result of `room` numbers: the first of 01's answers 1 to 10 that is given,
 -- and on a refusal no row and zeros

@@ -1,8 +1,7 @@
 -- The order, demand 2: "Each figure equals what 01 lays down .. number for number. Where refusals 1 to 8 do not apply, a load refusal is
 -- given exactly if no busy length within 01's limit exists. Fields written to a table read back the same, and an accepted table, unpacked
 -- and written again, gives the same bytes." Assumes nothing.
-use Rattle.std.specs.Prelude.{ℕ, zero, suc, ◌*◌, ◌%◌, ◌^◌, ◌≤◌, ◌<◌, List, ◌≡◌, length, get_or, take}
-use Rattle.std.proofs.Math.Option.{none, some}
+use Rattle.std.specs.Prelude.{ℕ, zero, suc, ◌*◌, ◌%◌, ◌^◌, ◌≤◌, ◌<◌, List, ◌≡◌, length, get_or, take, None, Some}
 use Rattle.base.specs.Tests.{number_or0}
 use Rattle.bits.specs.Bits.{Bytes}
 use Rattle.frame.specs.AsIpCuts.{CutsAsIp}
@@ -15,22 +14,19 @@ use Rattle.layout.specs.Layout.{header_names}
 use Rattle.layout.specs.Rows.{named, listed}
 use Rattle.network.specs.Network.{Network, vl_at, stream_at, port_at, hop_at}
 use Rattle.station.specs.Station.{figure}
-use Rattle.table.specs.declared.Unpacked.{Unpacked}
-use Rattle.table.specs.declared.Written.{Written}
 use Rattle.table.specs.Answers.{accepted}
 use Rattle.table.specs.Sections.{row, lent}
-use Rattle.table.specs.Unpack.{counted, Unpacks}
+use Rattle.table.specs.Unpack.{Unpacked, counted, Unpacks}
 use Rattle.table.specs.Lists.{Lists, lists_by, list_for, unpacked}
-use Rattle.table.specs.Write.{Writes}
+use Rattle.table.specs.Write.{Written, Writes}
 use Rattle.table.specs.Read.{network_in, read_answer}
 use Rattle.table.specs.RoundTrip.{RoomFor, UnpackAfterWrite, WriteAfterUnpack, Determined}
 use Rattle.rows.specs.Links.{hop_line}
 use Rattle.rows.specs.Queues.{queue_flows, queue_length}
 use Rattle.rows.specs.Ports.{Figures, figure_of, jitter_of}
 use Rattle.rows.specs.Rows.{worst, best, rows_of}
-use Rattle.analysis.specs.declared.Analysed.{Analysed}
 use Rattle.answers.specs.Analysis.{analysis_answer, joined}
-use Rattle.analysis.specs.Analysis.{Analyses}
+use Rattle.analysis.specs.Analysis.{Analysed, Analyses}
 use Rattle.order.specs.Exact.{Exact9, Exact10, ExactAccepted, ExactThree, JittersExist, OneListOfFlows}
 
 -- "Each figure equals what 01 lays down": the lent result holds 01's rows of the network that the bytes describe, and then zeros
@@ -72,15 +68,15 @@ pub record NothingCutOff (net : Network) : Type 0 where
 -- 01, BAG codes: the table of gaps, which the network's gaps, milliseconds made ticks, agree with
 pub record GapTable : Type 0 where
   -- "BAG codes 0 to 7 stand for these gaps in ticks": code k for 2 ^ k ms
-  pub in_ticks : (code : ℕ) → code < 8 → gap_of code ≡ some (per_ms * 2 ^ code)
+  pub in_ticks : (code : ℕ) → code < 8 → gap_of code ≡ Some (per_ms * 2 ^ code)
   -- and there is no other code
-  pub no_other : (code : ℕ) → 8 ≤ code → gap_of code ≡ none
+  pub no_other : (code : ℕ) → 8 ≤ code → gap_of code ≡ None
   -- each gap divides the longest, 1,600,000 ticks, which is the cycle that the station's code goes by
   pub evenly : (code : ℕ) → code < 8 → 1600000 % (per_ms * 2 ^ code) ≡ 0
   -- the code of a VL stands in its record, in section 2: the VL's gap in the network is the gap of that code
   pub of_vl_says :
       (bytes : List ℕ) → read_answer bytes ≡ accepted
-      → (v : ℕ) → v < length (network_in bytes).vls → gap_of (named 2 (row bytes 2 v) name.Gap) ≡ some (vl_at (network_in bytes) v).gap
+      → (v : ℕ) → v < length (network_in bytes).vls → gap_of (named 2 (row bytes 2 v) name.Gap) ≡ Some (vl_at (network_in bytes) v).gap
 
 -- what a caller has in hand of the six lent lists: the header's numbers, and as many records of each section as the unpacker counted
 unfoldable pub in_hand : Unpacked → ℕ → ℕ

@@ -7,8 +7,7 @@ use Rattle.network.specs.Network.{Network, vl_at, stream_at, hop_at}
 use Rattle.table.specs.Answers.{accepted}
 use Rattle.table.specs.Read.{network_in}
 use Rattle.network.specs.Views.{leaf}
-use Rattle.analysis.specs.declared.Analysed.{Analysed}
-use Rattle.analysis.specs.Analysis.{Analyses}
+use Rattle.analysis.specs.Analysis.{Analysed, Analyses}
 use Rattle.machine.specs.Messages.{Message, Packet}
 use Rattle.machine.specs.Machine.{Run, released}
 use Rattle.machine.specs.Permitted.{PermittedBelow}

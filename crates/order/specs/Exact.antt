@@ -2,8 +2,7 @@
 -- So 9 is given at the first VL that has a sub-link with streams and no busy length from 1 to 125,000,000; else 10 at the first port that,
 -- with jitters from the lower ports' figures, has none; else the table is accepted. And there are such jitters, and they give a port but
 -- one list of flows. Each part is a statement here and a field of demand 2; proofs/Exact.antt proves it. Assumes nothing.
-use Rattle.std.specs.Prelude.{ℕ, ◌≤◌, ◌<◌, List, ◌↔◌, ◌≡◌, length}
-use Rattle.std.proofs.Math.Option.{none, some}
+use Rattle.std.specs.Prelude.{ℕ, ◌≤◌, ◌<◌, List, ◌↔◌, ◌≡◌, length, None, Some}
 use Rattle.network.specs.Network.{Network, vl_at, stream_at, hop_at, parent_at}
 use Rattle.station.specs.Station.{Flow, load}
 use Rattle.table.specs.Answers.{answer, accepted}
@@ -15,8 +14,8 @@ use Rattle.answers.specs.Analysis.{answer7, answer8, analysis_answer}
 -- "Where refusals 1 to 8 do not apply"
 pub record Passed (bytes : List ℕ) (room : ℕ) : Type 0 where
   pub read : read_answer bytes ≡ accepted
-  pub none_7 : answer7 (network_in bytes) ≡ none
-  pub none_8 : answer8 (network_in bytes) room ≡ none
+  pub none_7 : answer7 (network_in bytes) ≡ None
+  pub none_8 : answer8 (network_in bytes) room ≡ None
 
 -- no "L from 1 to 125,000,000 with: the sum over flows of ((L + J) / T rounded up) × C is at most L"
 pub record NoLength (fs : List Flow) : Type 0 where
@@ -35,8 +34,8 @@ pub record EndlessQueue (net : Network) (v : ℕ) : Type 0 where
 -- jitters from the lower ports' figures: figures of the ports below p, and jitters of the hops on ports up to p, that keep 01's rules
 pub record FromLower (net : Network) (p : ℕ) (figure_at jitter_at : ℕ → ℕ) : Type 0 where
   pub figure_is : (q : ℕ) → q < p → figure_at q ≡ port_figure net jitter_at q
-  pub root_is : (h : ℕ) → h < length net.hops → (hop_at net h).port ≤ p → parent_at net h ≡ none → jitter_at h ≡ root_jitter net h
-  pub child_is : (h g : ℕ) → h < length net.hops → (hop_at net h).port ≤ p → parent_at net h ≡ some g
+  pub root_is : (h : ℕ) → h < length net.hops → (hop_at net h).port ≤ p → parent_at net h ≡ None → jitter_at h ≡ root_jitter net h
+  pub child_is : (h g : ℕ) → h < length net.hops → (hop_at net h).port ≤ p → parent_at net h ≡ Some g
       → jitter_at h ≡ child_jitter net h g (jitter_at g) (figure_at (hop_at net g).port)
 
 -- 10: "a port has no busy length", with such jitters

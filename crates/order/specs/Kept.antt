@@ -1,7 +1,9 @@
 -- The code behind the demands. Each public routine that they speak of keeps its contract: every call ends and leaves what the routine's own
 -- clauses ensure; they ask nothing of the caller; and what they ensure of a call is the promise that the demands take up, no less, no more.
--- The routines are in crates/analysis/src/answers.rt, crates/reader/src/reading.rt, crates/unpacker/src/lib.rt and
--- crates/writer/src/lib.rt; `a` are the arguments of a call, `x` is its result and `ws` what it left in the lent places. Assumes nothing.
+-- The routines are in crates/analysis/src/analysing.rt, crates/reader/src/reading.rt, crates/unpacker/src/lib.rt and
+-- crates/writer/src/lib.rt; `a` are the arguments of a call, `x` is its result and `ws` what it left in the lent places. A result is a
+-- Result: what it says, 01's answer and the numbers handed out with it, is `analysed_by x`, `said x`, `unpacked_by x` and `written_by x`.
+-- Assumes nothing.
 use Rattle.std.specs.Prelude.{◌↔◌, ◌≡◌, length}
 use seplogic.Ra.Ura.{Ura}
 use prog.Model.{Model}
@@ -13,11 +15,13 @@ use contract.Running.{Running}
 use denote.Triple.Clauses.{Ended, Clauses, Lasts, at_exit, closing}
 use denote.Triple.Entry.{Args, Res}
 use denote.Triple.Spec.{Meets}
+use Rattle.table.specs.Lent.{lists_of, lists_before}
 use Rattle.table.specs.Lists.{lists}
-use Rattle.table.specs.Unpack.{Unpacks}
-use Rattle.table.specs.Write.{Writes}
+use Rattle.table.specs.Refusals.{said}
+use Rattle.table.specs.Unpack.{unpacked_by, Unpacks}
+use Rattle.table.specs.Write.{written_by, Writes}
 use Rattle.table.specs.Read.{read_answer}
-use Rattle.analysis.specs.Analysis.{Analyses}
+use Rattle.analysis.specs.Analysis.{analysed_by, Analyses}
 use Rattle.analysis.specs.contracts.analyse as analyse
 use Rattle.analysis.proofs.analyse.Symbol.{code as analyse_code, name as analyse_name}
 use Rattle.reader.specs.contracts.check as check
@@ -33,29 +37,22 @@ Claim T = (κs : Lfts T.signature.lifetimes) (a : Args T.signature κs) → Res 
 
 -- the analysis: a table, and a lent result
 abbrev pub AnalysePromise : Claim analyse.ended
-AnalysePromise κs a x ws = Analyses a.0.now (length a.1.0.now) x ws.1.0
+AnalysePromise κs a x ws = Analyses a.0.now (length a.1.0.now) (analysed_by x) ws.1.0
 
 -- the reader: a table
 abbrev pub CheckPromise : Claim check.ended
-CheckPromise κs a x ws = x ≡ read_answer a.0.now
+CheckPromise κs a x ws = said x ≡ read_answer a.0.now
 
--- the unpacker: a table, and six lent lists
+-- the unpacker: a table, and six lent lists in one value
 abbrev pub UnpackPromise : Claim unpack.ended
 UnpackPromise κs a x ws =
-    Unpacks a.0.now
-    (lists
-    a.1.0.now a.1.1.0.now a.1.1.1.0.now a.1.1.1.1.0.now a.1.1.1.1.1.0.now
-    a.1.1.1.1.1.1.0.now)
-    x
-    (lists ws.1.0 ws.1.1.0 ws.1.1.1.0 ws.1.1.1.1.0 ws.1.1.1.1.1.0 ws.1.1.1.1.1.1.0)
+    let left = ws.1.0 in
+    Unpacks a.0.now (lists_before a.1.0) (unpacked_by x)
+    (lists left.0 left.1.0 left.1.1.0 left.1.1.1.0 left.1.1.1.1.0 left.1.1.1.1.1.0)
 
--- the writer: six lists, and lent bytes
+-- the writer: six lists in one value, and lent bytes
 abbrev pub WritePromise : Claim write.ended
-WritePromise κs a x ws =
-    Writes
-    (lists
-    a.0.now a.1.0.now a.1.1.0.now a.1.1.1.0.now a.1.1.1.1.0.now a.1.1.1.1.1.0.now)
-    (length a.1.1.1.1.1.1.0.now) x ws.1.1.1.1.1.1.0
+WritePromise κs a x ws = Writes (lists_of a.0) (length a.1.0.now) (written_by x) ws.1.0
 
 -- Every call of a routine ends, with what its clauses ensure, in any program that has the routine's code and that of all that it calls
 -- (`Meets` and `Wired` are the toolchain's own words; 𝓡.env is what a name means in the program; specs/There shows such a program).

@@ -6,9 +6,8 @@ use Rattle.network.specs.Network.{Network}
 use Rattle.table.specs.Answers.{accepted}
 use Rattle.table.specs.Sections.{lent}
 use Rattle.table.specs.Read.{network_in}
-use Rattle.analysis.specs.declared.Analysed.{Analysed}
 use Rattle.answers.specs.Analysis.{analysis_answer}
-use Rattle.analysis.specs.Analysis.{Analyses}
+use Rattle.analysis.specs.Analysis.{Analysed, Analyses}
 use Rattle.machine.specs.Messages.{Message}
 use Rattle.machine.specs.Machine.{Run, released}
 use Rattle.machine.specs.Permitted.{PermittedBelow}

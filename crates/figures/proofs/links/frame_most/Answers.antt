@@ -24,4 +24,4 @@ overflow_mul-result c = omega (arith, most _ _ _ c.requires c.line.ensures)
 pub returns : goal.returns
 returns c =
     let known = most _ _ _ c.requires c.line.ensures in
-    (ap (λ (n : ℕ). n * c.args.perbyte) known.0, known.1)
+    record { is = ap (λ (n : ℕ). n * c.args.perbyte) known.0; most = known.1 }

@@ -2,18 +2,21 @@
 -- Assumes nothing.
 use mathlib.Core.Path.{ap}
 use Rattle.network.specs.declared.Vl.{Vl}
+use Rattle.sheet.proofs.GoodLaws.{good_of}
 use Rattle.sheet.proofs.SheetLaws.{rules_on}
 use Rattle.figures.proofs.BoundLaws.{queue_offered}
-use Rattle.figures.proofs.QueueLaws.{queue_found}
+use Rattle.figures.proofs.QueueLaws.{queue_given, queue_none}
 use Rattle.figures.proofs.queues.queue.Goals as goal
 
-pub served-o-requires : goal.served-o-requires
-served-o-requires c =
-    let f = c.queue_flows-count.ensures in
-    let good = c.requires.good in
-    rw f (queue_offered _ good.ranges good.references _ _)
+pub figure-requires : goal.figure-requires
+figure-requires c =
+    let good = good_of c.args.net.good in
+    rw c.queue_flows.ensures (queue_offered _ good.ranges good.references _ _)
 
-pub returns : goal.returns
-returns c =
-    let f = c.queue_flows-count.ensures in
-    queue_found _ _ _ (rules_on _) _ _ _ _ _ f c.served-o.ensures (ap (λ (x : Vl). x.gap) c.requires.is) c.less.ensures
+pub returns-in-Some : goal.returns-in-Some
+returns-in-Some c =
+    rw c.less.ensures
+    (queue_given _ _ _ (rules_on _) _ c.queue_flows.ensures _ (ap (λ (x : Vl). x.gap) c.requires.is) c.in-Some.figure c.in-Some.ensures)
+
+pub returns-in-None : goal.returns-in-None
+returns-in-None c = queue_none _ _ _ (rules_on _) _ c.queue_flows.ensures _ (ap (λ (x : Vl). x.gap) c.requires.is) c.in-None.ensures
