@@ -3,8 +3,8 @@
 // only their answers. Of a reader whose bytes are known, `read` says which of them it took.
 #![tactic(auto)]
 
-ghost use Rattle.std.specs.Prelude.{false, ◌≡◌, ◌<◌, length};
-ghost use Rattle.console.specs.Told.{told, Within, Counted, Moved, Taken};
+ghost use Rattle.std.specs.Prelude.{◌<◌, length, IsErr};
+ghost use Rattle.console.specs.Told.{Counted, Taken};
 
 use std::io::{Read, Stdin};
 
@@ -12,81 +12,49 @@ const STDOUT_FILENO: i32 = 1;
 
 const STDERR_FILENO: i32 = 2;
 
-// What one call of C's read came to.
-#[derive(Clone, Copy)]
-pub enum Turn {
-    Some(usize),
-    End,
-    Fault,
-}
+// Some byte of a text did not go out.
+#[derive(Clone, Copy, PartialEq, Eq, Debug)]
+pub struct NotWritten;
 
-// What was read: so many bytes at the start of the lent buffer, up to the input's end or as many as it holds; or some read failed.
-#[derive(Clone, Copy)]
-pub enum Input {
-    Bytes(usize),
-    Failed,
-}
-
-// What an answer of C's read means, and how many bytes it brought.
-fn tell(got: isize, moved: usize) -> Turn
-    ensures { result ≡ told got moved }
-{
-    if got < 0 {
-        return Turn::Fault;
-    }
-    if moved == 0 {
-        return Turn::End;
-    }
-    Turn::Some(moved)
-}
-
-// One read, given as C's read answers: so many bytes, or -1 for one that failed.
-fn read_once<R: Read>(from: &mut R, part: &mut [u8]) -> Turn
-    ensures within { Within result (length part.old) }
-    ensures moved { Moved result (R.remaining from.old) (R.remaining from.new) part.new }
-{
-    match from.read(part) {
-        Ok(moved) => tell(moved as isize, moved),
-        Err(_) => tell(-1, 0),
-    }
-}
-
-// Reads until the buffer is full, the input ends or a read fails.
-pub fn read<R: Read>(from: &mut R, buf: &mut [u8]) -> Input
+// Reads until the buffer is full, the input ends or a read fails, and answers how many bytes came. Std's `read_exact` and `read_to_end`
+// do not say what came before the end, or read on past the buffer: hence a loop of our own.
+#[tactic(auto, using(crate::proofs::Reading::consumes_past))]
+pub fn read<R: Read>(from: &mut R, buf: &mut [u8]) -> std::io::Result<usize>
     ensures counted { Counted result buf.new }
     ensures taken { Taken result (R.remaining from.old) (R.remaining from.new) buf.new }
 {
     let mut done = 0;
     while done < buf.len() {
-        match read_once(from, &mut buf[done..]) {
-            Turn::Some(n) => done += n,
-            Turn::End => return Input::Bytes(done),
-            Turn::Fault => return Input::Failed,
+        let came = from.read(&mut buf[done..])?;
+        if came == 0 {
+            return Ok(done);
         }
+        done += came;
     }
-    Input::Bytes(done)
+    Ok(done)
 }
 
 // The same of standard input.
-pub fn read_input(mut stdin: Stdin, buf: &mut [u8]) -> Input
+pub fn read_input(mut stdin: Stdin, buf: &mut [u8]) -> std::io::Result<usize>
     ensures { Counted result buf.new }
 {
     read(&mut stdin, buf)
 }
 
-// Writes the first bytes of a text to standard output, and answers whether all of them went out. Of a text that has fewer none does.
-pub fn write_first(text: &[u8], used: usize) -> bool
-    ensures { length text.now < used → result ≡ false }
+// Writes the first bytes of a text to standard output. Of a text that has fewer none goes out.
+pub fn write_first(text: &[u8], used: usize) -> Result<(), NotWritten>
+    ensures { length text.now < used → IsErr result }
 {
-    if text.len() < used {
-        return false;
-    }
-    io::write_all(STDOUT_FILENO, &text[..used])
+    write(text.get(..used).ok_or(NotWritten)?)
 }
 
-// Writes a text to standard output, and answers whether all of it went out.
-pub fn write(text: &[u8]) -> bool {
-    io::write_all(STDOUT_FILENO, text)
+// Writes a text to standard output.
+pub fn write(text: &[u8]) -> Result<(), NotWritten> {
+    if io::write_all(STDOUT_FILENO, text) {
+        Ok(())
+    } else {
+        Err(NotWritten)
+    }
 }
 
 // Says on standard error why there is no answer, or no whole one. Standard output has nothing of it.

@@ -5,11 +5,10 @@
 
 ghost use Rattle.std.specs.Prelude.{◌≡◌, ◌+◌, ◌*◌, ◌≤◌, length, take, drop};
 ghost use Rattle.text.specs.Text.{line};
-ghost use Rattle.text.specs.Refusal.{refusal};
 
-use console::Input;
+use console::NotWritten;
 use layout::sizes;
-use table::Answer;
+use text::Text;
 
 // One byte more than the longest table, so that a longer one is seen to be too long.
 const MOST_BYTES: usize = sizes::TABLE + 1;
@@ -20,73 +19,46 @@ const MOST_NUMBERS: usize = 6 * sizes::MOST_ROWS;
 // The longest line: six numbers of at most twenty digits, five spaces and the line's end.
 const LINE: usize = 126;
 
-// The line of a refusal.
-fn refusal_line(answer: Answer, out: &mut [u8; LINE]) -> usize
-    requires { length out.old ≡ 126 }
-    ensures { (take result out.new ≡ refusal answer) × (length out.new ≡ 126) }
-{
-    text::put_refusal(out, 0, answer)
-}
-
-// The line of row i.
-fn row_line(numbers: &[u64], i: usize, out: &mut [u8; LINE]) -> usize
-    requires { (i * 6 + 6 ≤ length numbers.now) × (length out.old ≡ 126) }
-    ensures { (take result out.new ≡ line (take 6 (drop (i * 6) numbers.now))) × (length out.new ≡ 126) }
+// The line of row i, in the room that is lent for it.
+fn row_line<'a>(numbers: &[u64], i: usize, room: &'a mut [u8; LINE]) -> &'a [u8]
+    requires { i * 6 + 6 ≤ length numbers.now }
+    ensures { result.now ≡ line (take 6 (drop (i * 6) numbers.now)) }
 {
     let start = i * 6;
-    let end = start + 6;
-    text::put_line(out, 0, &numbers[start..end])
+    let mut text = Text::new(room);
+    text.put_line(&numbers[start..start + 6]);
+    text.written()
 }
 
-fn write_refusal(answer: Answer) -> bool {
-    let mut line = [0u8; LINE];
-    let used = refusal_line(answer, &mut line);
-    console::write_first(&line, used)
+// Writes the heading and so many rows, up to the first write that fails.
+fn write_rows(numbers: &[u64], rows: usize) -> Result<(), NotWritten>
+    requires { rows * 6 ≤ length numbers.now }
+{
+    console::write(b"stream hop queue worst best jitter\n")?;
+    for i in 0..rows {
+        console::write(row_line(numbers, i, &mut [0; LINE]))?;
+    }
+    Ok(())
 }
 
-fn write_row(numbers: &[u64; MOST_NUMBERS], i: usize) -> bool {
-    if sizes::MOST_ROWS <= i {
-        return false;
+// Analyses a table and writes the answer.
+fn write_answer(table: &[u8]) -> Result<(), NotWritten> {
+    let mut numbers = [0; MOST_NUMBERS];
+    match analysis::analyse(table, &mut numbers) {
+        Ok(rows) => write_rows(&numbers, rows),
+        Err(refusal) => console::write(text::refusal_line(
+            refusal.answer(),
+            &mut [0; text::REFUSAL],
+        )),
     }
-    let mut line = [0u8; LINE];
-    let used = row_line(numbers, i, &mut line);
-    console::write_first(&line, used)
-}
-
-// Writes the heading and n rows, up to the first write that fails.
-fn write_rows(numbers: &[u64; MOST_NUMBERS], n: usize) -> bool {
-    if !console::write(b"stream hop queue worst best jitter\n") {
-        return false;
-    }
-    let mut i = 0;
-    while i < n {
-        if !write_row(numbers, i) {
-            return false;
-        }
-        i += 1;
-    }
-    true
-}
-
-// Analyses a table and writes the answer; whether it went out whole.
-fn answered(table: &[u8]) -> bool {
-    let mut numbers = [0u64; MOST_NUMBERS];
-    let a = analysis::analyse(table, &mut numbers);
-    let answer = a.answer;
-    let number = answer.number;
-    if number == 0 {
-        return write_rows(&numbers, a.rows);
-    }
-    write_refusal(answer)
 }
 
 fn main(rt: HostRuntime) {
-    let mut bytes = [0u8; MOST_BYTES];
-    let Input::Bytes(n) = console::read_input(rt.stdin(), &mut bytes) else {
-        console::give_up(b"latency: the table could not be read\n");
-        return;
+    let mut bytes = [0; MOST_BYTES];
+    let Ok(used) = console::read_input(rt.stdin(), &mut bytes) else {
+        return console::give_up(b"latency: the table could not be read\n");
     };
-    if !answered(&bytes[..n]) {
+    if write_answer(&bytes[..used]).is_err() {
         console::give_up(b"latency: the answer could not be written whole\n");
     }
 }

@@ -4,210 +4,154 @@
 
 mod wording;
 
-use layout::sizes::{KINDS, LONGEST, MOST_ROWS};
-use layout::{Kind, Shape, Way};
-
-const STDOUT_FILENO: i32 = 1;
+use layout::sizes::{KINDS, MOST_ROWS};
+use layout::{Kind, Name, Shape, Way};
+use std::io;
 
 // The version whose sections are printed.
 const VERSION: u64 = 1;
 
-// A record has fewer pairs than fields.
-const MOST_TESTS: usize = 2 * LONGEST;
+// Codes are less than this.
+const MOST_CODES: u64 = 256;
 
-fn text(words: &[u8]) {
-    io::write_all(STDOUT_FILENO, words);
-}
-
-fn number(n: u64) {
-    io::print_decimal(STDOUT_FILENO, n);
-}
-
-fn bytes(n: usize) {
-    number(n as u64);
+fn bytes(rt: &impl Print, n: usize) -> io::Result<()> {
     match n {
-        1 => text(b" byte"),
-        _ => text(b" bytes"),
+        1 => print!(rt; "1 byte"),
+        _ => print!(rt; "{n} bytes"),
     }
+}
+
+// What a field is called.
+fn name(rt: &impl Print, name: Name) -> io::Result<()> {
+    rt.write_all(notation::name_of(name))
 }
 
 // ---- a code's values
 
 // What a stored code means; 0 where it is out of range, for no code stands for 0.
 fn meaning(kind: usize, k: usize, code: u64) -> u64 {
-    if LONGEST <= k {
-        return 0;
-    }
-    let mut row = [0u64; LONGEST];
-    row[k] = code;
-    let meant = layout::converted_row(Way::Reading, kind, &row);
-    meant[k]
+    layout::converted_number(Way::Reading, kind, k, code)
 }
 
 // The last code in range.
 fn last_code(kind: usize, k: usize) -> u64 {
-    let mut last = 0u64;
-    let mut code = 0u64;
-    while code < 256 {
-        if 0 < meaning(kind, k, code) {
-            last = code;
-        }
-        code += 1;
-    }
-    last
+    (0..MOST_CODES)
+        .rev()
+        .find(|&code| 0 < meaning(kind, k, code))
+        .unwrap_or(0)
 }
 
-fn meanings(kind: usize, k: usize) {
-    number(meaning(kind, k, 0));
-    let last = last_code(kind, k);
-    let mut code = 0u64;
-    while code < last {
-        code += 1;
-        text(b", ");
-        number(meaning(kind, k, code));
+fn meanings(rt: &impl Print, kind: usize, k: usize) -> io::Result<()> {
+    print!(rt; "code of {}", meaning(kind, k, 0))?;
+    for code in 1..=last_code(kind, k) {
+        print!(rt; ", {}", meaning(kind, k, code))?;
     }
+    Ok(())
 }
 
 // ---- a line for each test
 
-fn range(low: u64, high: u64) {
-    number(low);
+fn range(rt: &impl Print, low: u64, high: u64) -> io::Result<()> {
     if low < high {
-        text(b" to ");
-        number(high);
+        print!(rt; "{low} to {high}")
+    } else {
+        print!(rt; "{low}")
     }
 }
 
-fn stored(kind: usize, k: usize, what: Kind) {
-    match what {
-        Kind::Number(low, high) => range(low, high),
-        Kind::Reference => text(b"any"),
-        Kind::Padding => range(0, 0),
-        Kind::Gap => range(0, last_code(kind, k)),
-        Kind::LessOne => range(0, last_code(kind, k)),
-        Kind::Speed => range(0, last_code(kind, k)),
+fn stored(rt: &impl Print, kind: usize, k: usize, shape: Shape) -> io::Result<()> {
+    match shape.kind {
+        Kind::Number(low, high) => range(rt, low, high),
+        Kind::Reference => print!(rt; "any"),
+        Kind::Padding => range(rt, 0, 0),
+        Kind::Gap | Kind::LessOne | Kind::Speed => range(rt, 0, last_code(kind, k)),
     }
 }
 
-fn unit(kind: usize, k: usize, s: Shape) {
-    let what = s.kind;
-    match what {
+fn unit(rt: &impl Print, kind: usize, k: usize, shape: Shape) -> io::Result<()> {
+    match shape.kind {
         Kind::Gap => {
-            text(b"code of ");
-            meanings(kind, k);
-            text(b" ms");
+            meanings(rt, kind, k)?;
+            print!(rt; " ms")
         }
         Kind::Speed => {
-            text(b"code of ");
-            meanings(kind, k);
-            text(b" Mbit/s");
+            meanings(rt, kind, k)?;
+            print!(rt; " Mbit/s")
         }
-        _ => {
-            let n = s.name;
-            wording::unit(n);
-        }
+        _ => print!(rt; "{}", wording::unit(shape.name)),
     }
 }
 
-fn field(kind: usize, k: usize) {
-    let s = layout::shape_at(kind, k);
-    let called = s.name;
-    let what = s.kind;
-    text(b"| ");
-    number(k as u64);
-    text(b" | ");
-    wording::name(called);
-    text(b" | ");
-    number(s.width as u64);
-    text(b" | ");
-    stored(kind, k, what);
-    text(b" | ");
-    unit(kind, k, s);
-    text(b" |\n");
+fn field(rt: &impl Print, kind: usize, k: usize) -> io::Result<()> {
+    let shape = layout::shape_at(kind, k);
+    print!(rt; "| {k} | ")?;
+    name(rt, shape.name)?;
+    print!(rt; " | {} | ", shape.width)?;
+    stored(rt, kind, k, shape)?;
+    print!(rt; " | ")?;
+    unit(rt, kind, k, shape)?;
+    println!(rt; " |")
 }
 
-fn pair(kind: usize, k: usize, test: usize) {
-    let o = layout::order_at(kind, k);
-    let lesser = o.lesser;
-    let greater = o.greater;
-    text(b"| ");
-    number(test as u64);
-    text(b" | ");
-    wording::name(lesser);
-    text(b" is at most ");
-    wording::name(greater);
-    text(b" | | | |\n");
+fn pair(rt: &impl Print, kind: usize, k: usize, test: usize) -> io::Result<()> {
+    let order = layout::order_at(kind, k);
+    print!(rt; "| {test} | ")?;
+    name(rt, order.lesser)?;
+    print!(rt; " is at most ")?;
+    name(rt, order.greater)?;
+    println!(rt; " | | | |")
 }
 
 // The fields' tests come first, then those of the pairs.
-fn line(kind: usize, test: usize) {
-    let n = layout::fields_in(kind);
-    if test < n {
-        field(kind, test);
-        return;
+#[tactic(auto, using(layout::proofs::LayoutLaws::few_fields, layout::proofs::LayoutLaws::few_orders))]
+fn lines(rt: &impl Print, kind: usize) -> io::Result<()> {
+    let fields = layout::fields_in(kind);
+    for k in 0..fields {
+        field(rt, kind, k)?;
     }
-    let k = test - n;
-    if k < layout::orders_in(kind) {
-        pair(kind, k, test);
+    for k in 0..layout::orders_in(kind) {
+        pair(rt, kind, k, fields + k)?;
     }
+    Ok(())
 }
 
 // ---- a section
 
 // How many records a section has at most, by the header's field that counts them; the header is one.
-fn most(section: usize) {
+fn most(rt: &impl Print, section: usize) -> io::Result<()> {
     if section == 0 {
-        text(b"once");
-        return;
+        return print!(rt; "once");
     }
-    let s = layout::shape_at(layout::kind_of(VERSION, 0), section);
-    let what = s.kind;
-    if let Kind::Number(_, high) = what {
-        text(b"at most ");
-        number(high);
+    match layout::shape_at(layout::kind_of(VERSION, 0), section).kind {
+        Kind::Number(_, high) => print!(rt; "at most {high}"),
+        _ => Ok(()),
     }
 }
 
-fn heading(section: usize, kind: usize) {
-    text(b"### Section ");
-    number(section as u64);
-    text(b", ");
-    wording::section(section);
-    text(b": ");
-    bytes(layout::bytes_in(kind));
-    text(b", ");
-    most(section);
-    text(b"\n\n| test | field | bits | stored | unit |\n|---|---|---|---|---|\n");
+fn heading(rt: &impl Print, section: usize, kind: usize) -> io::Result<()> {
+    print!(rt; "### Section {section}, {}: ", wording::section(section))?;
+    bytes(rt, layout::bytes_in(kind))?;
+    print!(rt; ", ")?;
+    most(rt, section)?;
+    println!(rt; "\n\n| test | field | bits | stored | unit |\n|---|---|---|---|---|")
 }
 
-fn lines(kind: usize) {
-    let mut test = 0;
-    while test < MOST_TESTS {
-        line(kind, test);
-        test += 1;
+fn section(rt: &impl Print, section: usize) -> io::Result<()> {
+    let kind = layout::kind_of(VERSION, section);
+    heading(rt, section, kind)?;
+    lines(rt, kind)?;
+    println!(rt; "")
+}
+
+fn limits(rt: &impl Print) -> io::Result<()> {
+    print!(rt; "The longest table has ")?;
+    bytes(rt, layout::longest_table())?;
+    println!(rt; ". A result has at most {MOST_ROWS} rows.")
+}
+
+fn main(rt: HostRuntime) -> io::Result<()> {
+    for s in 0..KINDS {
+        section(&rt, s)?;
     }
-}
-
-fn section(s: usize) {
-    let kind = layout::kind_of(VERSION, s);
-    heading(s, kind);
-    lines(kind);
-    text(b"\n");
-}
-
-fn limits() {
-    text(b"The longest table has ");
-    bytes(layout::longest_table());
-    text(b". A result has at most ");
-    number(MOST_ROWS as u64);
-    text(b" rows.\n");
-}
-
-fn main() {
-    let mut s = 0;
-    while s < KINDS {
-        section(s);
-        s += 1;
-    }
-    limits();
+    limits(&rt)
 }

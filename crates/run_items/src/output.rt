@@ -1,10 +1,7 @@
 // The text of an item: numbers, lists and bytes put one behind the other and written out in few calls.
-// Each routine that puts something answers the place behind it.
-ghost use Rattle.std.specs.Prelude.{◌<◌};
-
-use crate::counts::{of_bytes, of_numbers};
-use table::Answer;
-use text::{put_byte, put_line, put_number};
+// A write that fails is not told: what is missing shows where the text is compared.
+use table::{Answer, Refusal};
+use text::Text;
 
 // The text is gathered in so many bytes.
 pub const TEXT: usize = 4_096;
@@ -12,121 +9,87 @@ pub const TEXT: usize = 4_096;
 // From here on it is written out first: a line of six numbers has at most 126 bytes, and the last line at most 26.
 const FULL: usize = 3_900;
 
-// Writes the text out where it is nearly full.
-pub fn flush(text: &[u8], at: usize) -> usize {
-    if at < FULL {
-        return at;
-    }
-    console::write_first(text, at);
-    0
+// The text, as far as it is not written out.
+#[derive(Drop)]
+pub struct Output<'a> {
+    text: Text<'a>,
 }
 
-// A number, with a space before it unless it is the first of its line.
-fn put_entry(text: &mut [u8], at: usize, i: usize, n: u64) -> usize {
-    let next = flush(text, at);
-    if i == 0 {
-        return put_number(text, next, n);
-    }
-    let behind = put_byte(text, next, b' ');
-    put_number(text, behind, n)
-}
-
-// The line of numbers that need not fit the text: it is written out between them.
-fn put_long_line(text: &mut [u8], at: usize, list: &[u64]) -> usize {
-    let mut next = at;
-    let mut i = 0;
-    while i < list.len() {
-        next = put_entry(text, next, i, list[i]);
-        i += 1;
-    }
-    put_byte(text, next, b'\n')
-}
-
-pub fn byte_value(b: u8) -> u64
-    ensures { result < 256 }
-{
-    b as u64
-}
-
-fn put_hex(text: &mut [u8], at: usize, byte: u8) -> usize {
-    let next = flush(text, at);
-    let mut digits = [0u8; 16];
-    io::hex(byte_value(byte), 2, &mut digits);
-    let behind = put_byte(text, next, digits[0]);
-    put_byte(text, behind, digits[1])
-}
-
-// Bytes in lowercase hex, and the line's end.
-fn put_hex_line(text: &mut [u8], at: usize, bytes: &[u8]) -> usize {
-    let mut next = at;
-    let mut i = 0;
-    while i < bytes.len() {
-        next = put_hex(text, next, bytes[i]);
-        i += 1;
-    }
-    put_byte(text, next, b'\n')
-}
-
-// The line of the first n numbers of a list, or of all where it has fewer.
-pub fn put_numbers(text: &mut [u8], at: usize, list: &[u64], n: usize) -> usize {
-    let used = of_numbers(n, list);
-    put_long_line(text, at, &list[..used])
-}
-
-// The line of the first n bytes where the lists are accepted; none on a refusal.
-pub fn put_hex_bytes(text: &mut [u8], at: usize, accepted: bool, bytes: &[u8], n: usize) -> usize {
-    if !accepted {
-        return at;
-    }
-    let used = of_bytes(n, bytes);
-    put_hex_line(text, at, &bytes[..used])
-}
-
-// An item's first line: its kind and numbers.
-pub fn put_first(text: &mut [u8], kind: u8, numbers: &[u64]) -> usize {
-    let a = put_byte(text, 0, kind);
-    let b = put_byte(text, a, b' ');
-    put_line(text, b, numbers)
-}
-
-pub fn put_answer(text: &mut [u8], kind: u8, a: Answer) -> usize {
-    let numbers = [a.number, a.section, a.row];
-    put_first(text, kind, &numbers)
-}
-
-// An item's last line, how many lent places behind what was written are not zero; and all its text goes out.
-pub fn end_item(text: &mut [u8], at: usize, rest: u64) {
-    let numbers = [rest];
-    let behind = text::put_bytes(text, at, b"rest ");
-    let used = put_line(text, behind, &numbers);
-    console::write_first(text, used);
-}
-
-// `others` and how many numbers from place n on are not zero.
-pub fn rest(list: &[u64], n: usize, others: u64) -> u64 {
-    let mut count = others;
-    let mut i = n;
-    while i < list.len() {
-        if list[i] != 0 {
-            count = std::num::wrapping_add_u64(count, 1);
+impl<'a> Output<'a> {
+    pub fn new(room: &'a mut [u8; TEXT]) -> Output<'a> {
+        Output {
+            text: Text::new(room),
         }
-        i += 1;
     }
-    count
-}
 
-pub fn rest_of_bytes(bytes: &[u8], n: usize) -> u64 {
-    let mut count = 0u64;
-    let mut i = n;
-    while i < bytes.len() {
-        if bytes[i] != 0 {
-            count = std::num::wrapping_add_u64(count, 1);
+    fn flush(&mut self) {
+        let used = self.text.at;
+        let _ = console::write_first(self.text.bytes, used);
+        self.text.at = 0;
+    }
+
+    fn make_room(&mut self) {
+        if FULL <= self.text.at {
+            self.flush();
         }
-        i += 1;
     }
-    count
+
+    // An item's first line: its kind and numbers.
+    pub fn put_first(&mut self, kind: u8, numbers: &[u64]) {
+        self.text.put_bytes(&[kind, b' ']);
+        self.text.put_line(numbers);
+    }
+
+    pub fn put_answer(&mut self, kind: u8, refusal: Option<Refusal>) {
+        let answer = answer_of(refusal);
+        self.put_first(kind, &[answer.number, answer.section, answer.row]);
+    }
+
+    // A row of a result.
+    pub fn put_row(&mut self, row: &[u64]) {
+        self.make_room();
+        self.text.put_line(row);
+    }
+
+    // The line of a list that need not fit the text: it is written out between the numbers.
+    pub fn put_list(&mut self, list: &[u64]) {
+        for (i, n) in list.iter().enumerate() {
+            self.make_room();
+            if 0 < i {
+                self.text.put_bytes(b" ");
+            }
+            self.text.put_number(*n);
+        }
+        self.text.put_bytes(b"\n");
+    }
+
+    // The line of bytes in lowercase hex.
+    pub fn put_hex(&mut self, bytes: &[u8]) {
+        for byte in bytes {
+            self.make_room();
+            let mut digits = [0; 16];
+            io::hex(u64::from(*byte), 2, &mut digits);
+            self.text.put_bytes(&digits[..2]);
+        }
+        self.text.put_bytes(b"\n");
+    }
+
+    // An item's last line, how many lent places behind what was written are not zero; and all its text goes out.
+    pub fn end(&mut self, rest: usize) {
+        self.text.put_bytes(b"rest ");
+        self.text.put_line(&[rest as u64]);
+        self.flush();
+    }
 }
 
-pub fn accepts(a: Answer) -> bool {
-    a.number == 0
+pub fn answer_of(refusal: Option<Refusal>) -> Answer {
+    refusal.map_or(Answer::ACCEPTED, |refusal| refusal.answer())
+}
+
+// How many values from place n on are not zero.
+pub fn rest<T: Copy + Into<u64>>(list: &[T], n: usize) -> usize {
+    list.iter()
+        .skip(n)
+        .filter(|value| (**value).into() != 0)
+        .count()
 }

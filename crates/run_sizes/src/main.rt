@@ -2,128 +2,97 @@
 // It writes one line a case; the lines are compared with stdout.
 #![tactic(auto)]
 
-use frame::{Reply, Tick};
+use frame::Tick;
+use std::io;
 
-const STDOUT_FILENO: i32 = 1;
-
-fn text(words: &[u8]) {
-    io::write_all(STDOUT_FILENO, words);
-}
-
-fn number(n: u64) {
-    io::print_decimal(STDOUT_FILENO, n);
-}
-
-fn reply(r: Reply) {
-    match r {
-        Reply::Value(v) => number(v),
-        Reply::Refused => text(b"refused 4"),
-    }
-    text(b"\n");
-}
-
-// So many ticks of 80 ns, in microseconds with two decimals.
-fn microseconds(ticks: u64) {
-    let hundredths = ticks % 1_000_000 * 8;
-    number(hundredths / 100);
-    text(b".");
-    number(hundredths / 10 % 10);
-    number(hundredths % 10);
-}
-
-// The bytes of a line size and the time that they take at 100 Mbit/s.
-fn line(payload: u64) {
-    match frame::line_of(payload) {
-        Reply::Value(bytes) => {
-            number(bytes);
-            text(b" bytes ");
-            microseconds(bytes % 2_000 * Tick::PER_BYTE_AT_100);
-            text(b" us\n");
-        }
-        Reply::Refused => text(b"refused 4\n"),
+fn answer(rt: &impl Print, said: Option<u64>) -> io::Result<()> {
+    match said {
+        Some(n) => println!(rt; "{n}"),
+        None => println!(rt; "refused 4"),
     }
 }
 
-// A message of source 000, Table 2: its packets, and the line size and time of one of this payload.
-fn message(m: u64, lmax: u64, payload: u64) {
-    reply(frame::packets_of(m, lmax));
-    line(payload);
+// The bytes of a line size, and the time in µs that they take at 100 Mbit/s: a tick is 80 ns, which are 8 hundredths of a µs.
+fn line(rt: &impl Print, payload: u64) -> io::Result<()> {
+    let Some(bytes) = frame::line_of(payload) else {
+        return answer(rt, None);
+    };
+    let hundredths = bytes.saturating_mul(Tick::PER_BYTE_AT_100 * 8);
+    println!(rt;
+        "{bytes} bytes {}.{:02} us",
+        hundredths / 100,
+        hundredths % 100
+    )
 }
 
-fn sources() {
-    text(b"000, the least and the greatest frame\n");
-    line(17);
-    line(1471);
-    text(b"000, Table 2: M1, M2, M3\n");
-    message(306, 200, 153);
-    message(153, 200, 153);
-    message(953, 1000, 953);
+fn packets(rt: &impl Print, m: u64, lmax: u64) -> io::Result<()> {
+    answer(rt, frame::packets_of(m, lmax))
 }
 
-fn numbers() {
-    text(b"01, numbers 1 and 2\n");
-    line(17);
-    line(18);
-    line(1471);
-    line(0);
-    line(1472);
-    reply(frame::packets_of(1471, 1518));
-    reply(frame::packets_of(1472, 1518));
-    reply(frame::packets_of(100, 64));
+fn sources(rt: &impl Print) -> io::Result<()> {
+    println!(rt; "000, the least and the greatest frame")?;
+    for payload in [17, 1471] {
+        line(rt, payload)?;
+    }
+    println!(rt; "000, Table 2: M1, M2, M3")?;
+    for (m, lmax, payload) in [(306, 200, 153), (153, 200, 153), (953, 1000, 953)] {
+        packets(rt, m, lmax)?;
+        line(rt, payload)?;
+    }
+    Ok(())
 }
 
-fn ranges() {
-    text(b"packets: Lmax 63, 47, 1519; M 0, 8192, 8193\n");
-    reply(frame::packets_of(1, 63));
-    reply(frame::packets_of(1, 47));
-    reply(frame::packets_of(1, 1519));
-    reply(frame::packets_of(0, 64));
-    reply(frame::packets_of(8192, 64));
-    reply(frame::packets_of(8193, 64));
-    text(
-        b"packets: M 113, 114 at Lmax 64, where a full fragment has 24 bytes and the last up to 25; 2943, 2944 at 1518\n",
-    );
-    reply(frame::packets_of(113, 64));
-    reply(frame::packets_of(114, 64));
-    reply(frame::packets_of(2943, 1518));
-    reply(frame::packets_of(2944, 1518));
-    text(b"20 + Lmax: 63, 64, 1518, 1519\n");
-    reply(frame::largest_line(63));
-    reply(frame::largest_line(64));
-    reply(frame::largest_line(1518));
-    reply(frame::largest_line(1519));
+fn numbers(rt: &impl Print) -> io::Result<()> {
+    println!(rt; "01, numbers 1 and 2")?;
+    for payload in [17, 18, 1471, 0, 1472] {
+        line(rt, payload)?;
+    }
+    for (m, lmax) in [(1471, 1518), (1472, 1518), (100, 64)] {
+        packets(rt, m, lmax)?;
+    }
+    Ok(())
+}
+
+fn ranges(rt: &impl Print) -> io::Result<()> {
+    println!(rt; "packets: Lmax 63, 47, 1519; M 0, 8192, 8193")?;
+    for (m, lmax) in [(1, 63), (1, 47), (1, 1519), (0, 64), (8192, 64), (8193, 64)] {
+        packets(rt, m, lmax)?;
+    }
+    println!(rt;
+        "packets: M 113, 114 at Lmax 64, where a full fragment has 24 bytes and the last up to 25; 2943, 2944 at 1518"
+    )?;
+    for (m, lmax) in [(113, 64), (114, 64), (2943, 1518), (2944, 1518)] {
+        packets(rt, m, lmax)?;
+    }
+    println!(rt; "20 + Lmax: 63, 64, 1518, 1519")?;
+    for lmax in [63, 64, 1518, 1519] {
+        answer(rt, frame::largest_line(lmax))?;
+    }
+    Ok(())
 }
 
 // The code of a gap, the gap of the code, and its ticks.
-fn gap(ms: u64) {
-    match frame::code_of(ms) {
-        Reply::Value(code) => {
-            number(code);
-            text(b" ");
-            reply(frame::ms_of(code));
-            reply(frame::gap_of(code));
-        }
-        Reply::Refused => text(b"refused 4\n"),
+fn gap(rt: &impl Print, ms: u64) -> io::Result<()> {
+    let Some(code) = frame::code_of(ms) else {
+        return answer(rt, None);
+    };
+    print!(rt; "{code} ")?;
+    answer(rt, frame::ms_of(code))?;
+    answer(rt, frame::gap_of(code))
+}
+
+fn gaps(rt: &impl Print) -> io::Result<()> {
+    println!(rt; "gaps of 0, 1, 2, 3, 64, 96, 128, 256 ms; code 8")?;
+    for ms in [0, 1, 2, 3, 64, 96, 128, 256] {
+        gap(rt, ms)?;
     }
+    answer(rt, frame::gap_of(8))?;
+    answer(rt, frame::ms_of(8))
 }
 
-fn gaps() {
-    text(b"gaps of 0, 1, 2, 3, 64, 96, 128, 256 ms; code 8\n");
-    gap(0);
-    gap(1);
-    gap(2);
-    gap(3);
-    gap(64);
-    gap(96);
-    gap(128);
-    gap(256);
-    reply(frame::gap_of(8));
-    reply(frame::ms_of(8));
-}
-
-fn main() {
-    sources();
-    numbers();
-    ranges();
-    gaps();
+fn main(rt: HostRuntime) -> io::Result<()> {
+    sources(&rt)?;
+    numbers(&rt)?;
+    ranges(&rt)?;
+    gaps(&rt)
 }

@@ -9,12 +9,14 @@ mod refusals;
 mod routes;
 mod whole;
 
-fn main() {
-    whole::written();
-    fields::limits();
-    lengths::lengths();
-    routes::routes();
-    refusals::rooms();
-    refusals::writes();
-    refusals::too_short();
+use std::io;
+
+fn main(rt: HostRuntime) -> io::Result<()> {
+    whole::written(&rt)?;
+    fields::limits(&rt)?;
+    lengths::lengths(&rt)?;
+    routes::routes(&rt)?;
+    refusals::rooms(&rt)?;
+    refusals::writes(&rt)?;
+    refusals::too_short(&rt)
 }

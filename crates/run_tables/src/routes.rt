@@ -1,64 +1,47 @@
 // Routes of one VL through ten ports: chains of hops, and each kind of hop that is refused.
 // An end system has no VL and a port no hop, and both are accepted.
-ghost use Rattle.std.specs.Prelude.{◌≤◌};
-
-use crate::print::text;
 use crate::whole::{HEADER, first_bytes};
+use std::io;
+use table::Lists;
 
-const NONE: [u64; 10] = [0; 10];
+// One VL, and ten ports: five of 100 Mbit/s, five of 10.
+const ROUTED: Lists<'static> = Lists {
+    header: &HEADER,
+    systems: &[100, 10],
+    vls: &[1, 128, 4, 64],
+    streams: &[],
+    ports: &[
+        100, 0, 0, 100, 0, 0, 100, 0, 0, 100, 0, 0, 100, 0, 0, 10, 0, 0, 10, 0, 0, 10, 0, 0, 10, 0,
+        0, 10, 0, 0,
+    ],
+    hops: &[],
+};
 
-const SPEEDS: [u64; 10] = [100, 100, 100, 100, 100, 10, 10, 10, 10, 10];
+// Hops of the VL, each on the next port and behind the one before.
+const CHAIN: [u64; 27] = [
+    0, 0, 0, 0, 1, 1, 0, 2, 2, 0, 3, 3, 0, 4, 4, 0, 5, 5, 0, 6, 6, 0, 7, 7, 0, 8, 8,
+];
 
-const PLACES: [u64; 10] = [0, 1, 2, 3, 4, 5, 6, 7, 8, 9];
-
-// Ten records of three numbers, the first of one list and both others of the other.
-fn records(firsts: [u64; 10], others: [u64; 10]) -> [u64; 30] {
-    let mut list = [0u64; 30];
-    let mut i = 0;
-    while i < 10 {
-        let at = i * 3;
-        list[at] = firsts[i];
-        let other = others[i];
-        list[at + 1] = other;
-        list[at + 2] = other;
-        i += 1;
-    }
-    list
+fn routed(rt: &impl Print, hops: &[u64]) -> io::Result<()> {
+    let mut out = [0; 100];
+    let written = writer::write(Lists { hops, ..ROUTED }, &mut out);
+    first_bytes(rt, &out, written.unwrap_or(0))
 }
 
-fn routed(hops: &[u64]) {
-    let header = HEADER;
-    let systems = [100u64, 10];
-    let vls = [1u64, 128, 4, 64];
-    let ports = records(SPEEDS, NONE);
-    let none = [0u64; 0];
-    let mut out = [0u8; 100];
-    let w = writer::write(&header, &systems, &vls, &none, &ports, hops, &mut out);
-    first_bytes(&out, w.length);
-}
-
-// A route of n hops, each on the next port.
-fn chained(n: usize)
-    requires { n ≤ 10 }
-{
-    let hops = records(NONE, PLACES);
-    routed(&hops[..n * 3]);
-}
-
-pub fn routes() {
-    text(
-        b"a VL without streams, an end system without VLs, a port without hops: a route of 8 hops, and of 9\n",
-    );
-    chained(8);
-    chained(9);
-    text(
-        b"no hop; a hop of no VL; a twin; a parent on the same, on a higher port; a later parent; three leaves\n",
-    );
-    routed(&[]);
-    routed(&[0, 0, 0, 1, 1, 0]);
-    routed(&[0, 3, 0, 0, 4, 0, 0, 3, 0]);
-    routed(&[0, 3, 0, 0, 3, 1]);
-    routed(&[0, 3, 0, 0, 2, 1]);
-    routed(&[0, 1, 2, 0, 2, 0]);
-    routed(&[0, 0, 0, 0, 1, 1, 0, 2, 1, 0, 3, 2]);
+pub fn routes(rt: &impl Print) -> io::Result<()> {
+    println!(rt;
+        "a VL without streams, an end system without VLs, a port without hops: a route of 8 hops, and of 9"
+    )?;
+    routed(rt, &CHAIN[..24])?;
+    routed(rt, &CHAIN)?;
+    println!(rt;
+        "no hop; a hop of no VL; a twin; a parent on the same, on a higher port; a later parent; three leaves"
+    )?;
+    routed(rt, &[])?;
+    routed(rt, &[0, 0, 0, 1, 1, 0])?;
+    routed(rt, &[0, 3, 0, 0, 4, 0, 0, 3, 0])?;
+    routed(rt, &[0, 3, 0, 0, 3, 1])?;
+    routed(rt, &[0, 3, 0, 0, 2, 1])?;
+    routed(rt, &[0, 1, 2, 0, 2, 0])?;
+    routed(rt, &[0, 0, 0, 0, 1, 1, 0, 2, 1, 0, 3, 2])
 }

@@ -1,30 +1,34 @@
 // 01's whole case both ways: its lists written to bytes, and its bytes unpacked to lists; and number 10's bytes.
 // Every lent place holds a nine before the unpacker's call, so that one that is not written shows.
-use crate::print::{answer, hex, numbers, text};
-use table::Answer;
+use crate::print::{answer, hex, numbers};
+use std::io;
+use table::{Lists, ListsMut, Refusal};
 
 pub const HEADER: [u64; 5] = [1, 500, 1_000, 500, 500];
 
-pub const SYSTEMS: [u64; 1] = [100];
+// The lists of one end system, with nothing on it.
+pub const SYSTEM: Lists<'static> = Lists {
+    header: &HEADER,
+    systems: &[100],
+    vls: &[],
+    streams: &[],
+    ports: &[],
+    hops: &[],
+};
 
-const VLS: [u64; 8] = [0, 1, 1, 1_518, 0, 2, 1, 516];
-
-const STREAMS: [u64; 14] = [
-    0, 0, 0, 2_000, 1_000, 250_000, 0, 1, 0, 1, 469, 10, 500_000, 1_000,
-];
-
-const PORTS: [u64; 3] = [100, 875, 1_250];
-
-const HOPS: [u64; 6] = [0, 0, 0, 1, 0, 0];
+const WHOLE: Lists<'static> = Lists {
+    header: &HEADER,
+    systems: &[100],
+    vls: &[0, 1, 1, 1_518, 0, 2, 1, 516],
+    streams: &[
+        0, 0, 0, 2_000, 1_000, 250_000, 0, 1, 0, 1, 469, 10, 500_000, 1_000,
+    ],
+    ports: &[100, 875, 1_250],
+    hops: &[0, 0, 0, 1, 0, 0],
+};
 
 pub fn write_whole(out: &mut [u8]) {
-    let header = HEADER;
-    let systems = SYSTEMS;
-    let vls = VLS;
-    let streams = STREAMS;
-    let ports = PORTS;
-    let hops = HOPS;
-    writer::write(&header, &systems, &vls, &streams, &ports, &hops, out);
+    let _ = writer::write(WHOLE, out);
 }
 
 pub fn whole_case() -> [u8; 59] {
@@ -34,16 +38,17 @@ pub fn whole_case() -> [u8; 59] {
 }
 
 // The reader's answer for the first n bytes.
-pub fn first_bytes(bytes: &[u8], n: usize) {
-    if n <= bytes.len() {
-        answer(reader::check(&bytes[..n]));
+pub fn first_bytes(rt: &impl Print, bytes: &[u8], n: usize) -> io::Result<()> {
+    match bytes.get(..n) {
+        Some(first) => answer(rt, reader::check(first).err()),
+        None => Ok(()),
     }
 }
 
-// The lists of a table, but for its hops, and the unpacker's answer.
+// The lists of a table, but for its hops, and why it is refused.
 #[derive(Clone, Copy)]
-pub struct Lists {
-    pub answer: Answer,
+pub struct FiveLists {
+    pub refusal: Option<Refusal>,
     pub header: [u64; 5],
     pub systems: [u64; 2],
     pub vls: [u64; 9],
@@ -51,24 +56,23 @@ pub struct Lists {
     pub ports: [u64; 3],
 }
 
-pub fn unpack(bytes: &[u8], hops: &mut [u64]) -> Lists {
-    let mut header = [9u64; 5];
-    let mut systems = [9u64; 2];
-    let mut vls = [9u64; 9];
-    let mut streams = [9u64; 14];
-    let mut ports = [9u64; 3];
-    let u = unpacker::unpack(
-        bytes,
-        &mut header,
-        &mut systems,
-        &mut vls,
-        &mut streams,
-        &mut ports,
+pub fn unpack(bytes: &[u8], hops: &mut [u64]) -> FiveLists {
+    let mut header = [9; 5];
+    let mut systems = [9; 2];
+    let mut vls = [9; 9];
+    let mut streams = [9; 14];
+    let mut ports = [9; 3];
+    let lists = ListsMut {
+        header: &mut header,
+        systems: &mut systems,
+        vls: &mut vls,
+        streams: &mut streams,
+        ports: &mut ports,
         hops,
-    );
-    let a = u.answer;
-    Lists {
-        answer: a,
+    };
+    let refusal = unpacker::unpack(bytes, lists).err();
+    FiveLists {
+        refusal,
         header,
         systems,
         vls,
@@ -77,36 +81,33 @@ pub fn unpack(bytes: &[u8], hops: &mut [u64]) -> Lists {
     }
 }
 
-pub fn unpacked(bytes: &[u8]) {
-    let mut hops = [9u64; 6];
+pub fn unpacked(rt: &impl Print, bytes: &[u8]) -> io::Result<()> {
+    let mut hops = [9; 6];
     let lists = unpack(bytes, &mut hops);
-    answer(lists.answer);
-    numbers(&lists.header);
-    numbers(&lists.systems);
-    numbers(&lists.vls);
-    numbers(&lists.streams);
-    numbers(&lists.ports);
-    numbers(&hops);
+    answer(rt, lists.refusal)?;
+    numbers(rt, &lists.header)?;
+    numbers(rt, &lists.systems)?;
+    numbers(rt, &lists.vls)?;
+    numbers(rt, &lists.streams)?;
+    numbers(rt, &lists.ports)?;
+    numbers(rt, &hops)
 }
 
 // The bytes of a VL record, in a table of one end system and one VL.
-fn record(vl: &[u64]) {
-    let header = HEADER;
-    let systems = SYSTEMS;
-    let none = [0u64; 0];
-    let mut out = [0u8; 18];
-    let w = writer::write(&header, &systems, vl, &none, &none, &none, &mut out);
-    answer(w.answer);
-    hex(&out[15..18]);
+fn record(rt: &impl Print, vl: &[u64]) -> io::Result<()> {
+    let mut out = [0; 18];
+    let written = writer::write(Lists { vls: vl, ..SYSTEM }, &mut out);
+    answer(rt, written.err())?;
+    hex(rt, &out[15..])
 }
 
-pub fn written() {
-    text(b"01, the whole case: its bytes, its answer, and its lists again\n");
+pub fn written(rt: &impl Print) -> io::Result<()> {
+    println!(rt; "01, the whole case: its bytes, its answer, and its lists again")?;
     let out = whole_case();
-    hex(&out);
-    answer(reader::check(&out));
-    unpacked(&out);
-    text(b"01, number 10: 13 bytes; the VL record\n");
-    first_bytes(&out, 13);
-    record(&[0, 2, 1, 516]);
+    hex(rt, &out)?;
+    answer(rt, reader::check(&out).err())?;
+    unpacked(rt, &out)?;
+    println!(rt; "01, number 10: 13 bytes; the VL record")?;
+    first_bytes(rt, &out, 13)?;
+    record(rt, &[0, 2, 1, 516])
 }

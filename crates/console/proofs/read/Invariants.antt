@@ -1,4 +1,5 @@
 -- The bytes read so far fit the lent buffer, which keeps its length, and are what the reader had first; each turn leaves less room.
+-- Assumes nothing.
 use Rattle.std.proofs.Common.{◌≡◌, ◌-◌, ◌≤◌, length, take}
 use Rattle.std.specs.Io.KnownBytes.{Consumes}
 use Rattle.console.proofs.read.Given as goal

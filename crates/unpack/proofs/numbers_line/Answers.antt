@@ -1,8 +1,12 @@
--- `unpack::numbers_line` meets its contract: the words of the numbers stand whole in the line.
+-- `unpack::numbers_line` meets its contract: there is room for the longest line.
 -- Assumes nothing.
+use Rattle.std.proofs.Common.{◌∙◌, arith}
+use Rattle.text.proofs.GainLaws.{gains_whole}
 use Rattle.notation.proofs.PrintedLaws.{line_fits}
-use Rattle.unpack.proofs.LineLaws.{stands}
 use Rattle.unpack.proofs.numbers_line.Goals as goal
 
 pub returns : goal.returns
-returns c = stands _ _ _ _ c.requires (line_fits _ _ _) c.put_record.ensures
+returns c =
+    let a = c.args in
+    let fits = line_fits a.version a.section a.numbers.now in
+    c.written.ensures ∙ gains_whole _ _ _ c.new-text.ensures.start (rw c.new-text.ensures.lent (omega arith)) c.put_record.ensures

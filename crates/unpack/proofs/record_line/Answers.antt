@@ -1,8 +1,6 @@
 -- `unpack::record_line` meets its contract: the numbers of the record are those at its place in the list.
 -- Assumes nothing.
-use Prim.Native.Nat.{◌+◌, ◌*◌, ◌-◌}
-use mathlib.Core.Path.{◌≡◌}
-use native.Mathlib.Omega.{arith}
+use Rattle.std.proofs.Common.{◌≡◌, ◌+◌, ◌-◌, ◌*◌, arith}
 use Rattle.notation.specs.Printed.{record_in}
 use Rattle.unpack.proofs.record_line.Goals as goal
 
