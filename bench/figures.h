@@ -1,5 +1,5 @@
 /* A twin in C of crates/figures and crates/analysis: mux waits, queue figures, figures by hop and result rows of a table, and 01's answers 7 to 10.
-   The same loops over the same lists in the same order; as there, flows are gathered in one place and lent. */
+   The same loops over the same lists, but that the proved code marks the leaves a second time for the rows, and adds up a route in one walk, not two; as there, flows are gathered in one place and lent. */
 #ifndef FIGURES_H
 #define FIGURES_H
 

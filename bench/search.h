@@ -1,4 +1,4 @@
-/* A twin in C of the search in crates/search/src and crates/station/src, function for function: the busy length and the figure of flows.
+/* A twin in C of the search in crates/search/src and crates/station/src, pass for pass, with the same division: the busy length and the figure of flows.
    With -DCOUNT it counts the passes over the flows, those of the way up and of the way down, and the flows looked at. */
 #ifndef SEARCH_H
 #define SEARCH_H
