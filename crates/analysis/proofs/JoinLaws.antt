@@ -12,7 +12,7 @@ use Rattle.network.specs.Network.{Network, stream_at}
 use Rattle.network.specs.Views.{leaves_of}
 use Rattle.rows.specs.Rows.{row_of, rows_to, rows_of}
 use Rattle.table.specs.Sections.{lent}
-use Rattle.table.proofs.LentLaws.{lent_none}
+use Rattle.table.proofs.LentLaws.{lent_none, length_lent}
 use Rattle.answers.specs.Analysis.{joined}
 use Rattle.analysis.specs.Placing.{put_at, Put}
 use Rattle.figures.proofs.CountLaws.{is_destination, leaves_to, rows_with, length_rows_with}
@@ -94,26 +94,31 @@ module _ (net : Network) (s at n : ℕ) (result : List ℕ) where
       let whole = rows_up_to_all net s h e in
       record { place = p.place ∙ ap (λ (rows : List (List ℕ)). 6 * length rows) whole; holds = p.holds ∙ ap (λ (rows : List (List ℕ)). lent n (joined rows)) whole }
 
-  -- where there is room for all rows, and hop h is a destination of the stream: its row
-  module _ (fits : 6 * length (rows_of net) ≤ n) (there : s < length net.streams) (h : ℕ) (l : h < length net.hops)
-      (is : is_destination net (stream_at net s).vl h ≡ true) (p : PutTo net s h at n result) where
-    one_more : length (rows_up_to net s (h + 1)) ≡ length (rows_up_to net s h) + 1
-    one_more = ap length (rows_up_to_hit net s h is) ∙ length-append (rows_up_to net s h) (row_of net s h ∷ [])
+  -- where there is room for all rows
+  module _ (fits : 6 * length (rows_of net) ≤ n) (there : s < length net.streams) where
+    pub put_length : (h : ℕ) → h ≤ length net.hops → PutTo net s h at n result → length result ≡ n
+    put_length h l p =
+        ap length p.holds ∙ length_lent n (joined (rows_up_to net s h)) (omega (arith, length_rows_up_to net s h, rows_fit net s h there l))
 
-    pub put_room : at + 6 ≤ n
-    put_room = omega (arith, p.place, one_more, rows_fit net s (h + 1) there (omega arith))
+    -- hop h is a destination of the stream: its row
+    module _ (h : ℕ) (l : h < length net.hops) (is : is_destination net (stream_at net s).vl h ≡ true) (p : PutTo net s h at n result) where
+      one_more : length (rows_up_to net s (h + 1)) ≡ length (rows_up_to net s h) + 1
+      one_more = ap length (rows_up_to_hit net s h is) ∙ length-append (rows_up_to net s h) (row_of net s h ∷ [])
 
-    pub put_more : (row after : List ℕ) → row ≡ row_of net s h → after ≡ put_at result at row → PutTo net s (h + 1) (at + 6) n after
-    put_more row after e f = record {
-      place = omega (arith, p.place, one_more);
-      holds =
-          let rows = rows_up_to net s h in
-          let long = length_rows_up_to net s h in
-          f
-          ∙ ap₂ (λ (l r : List ℕ). put_at l at r) p.holds e
-          ∙ put_lent n (joined rows) (row_of net s h) at (omega (arith, p.place)) (omega (arith, row_length net s h, put_room))
-          ∙ ap (lent n) (sym (joined_more rows (row_of net s h)) ∙ ap joined (sym (rows_up_to_hit net s h is)));
-    }
+      pub put_room : at + 6 ≤ n
+      put_room = omega (arith, p.place, one_more, rows_fit net s (h + 1) there (omega arith))
+
+      pub put_more : (row after : List ℕ) → row ≡ row_of net s h → after ≡ put_at result at row → PutTo net s (h + 1) (at + 6) n after
+      put_more row after e f = record {
+        place = omega (arith, p.place, one_more);
+        holds =
+            let rows = rows_up_to net s h in
+            let long = length_rows_up_to net s h in
+            f
+            ∙ ap₂ (λ (l r : List ℕ). put_at l at r) p.holds e
+            ∙ put_lent n (joined rows) (row_of net s h) at (omega (arith, p.place)) (omega (arith, row_length net s h, put_room))
+            ∙ ap (lent n) (sym (joined_more rows (row_of net s h)) ∙ ap joined (sym (rows_up_to_hit net s h is)));
+      }
 
 -- ---- none and all of the streams
 pub put_no_rows : (net : Network) (result : List ℕ) → result ≡ replicate (length result) 0 → Put net 0 0 (length result) result

@@ -6,7 +6,7 @@ ghost use Rattle.figures.specs.Figures.{no_figures};
 use layout::sizes::{MOST_HOPS, MOST_VLS, QUEUES};
 
 // The mux waits by VL, the queue figures by sub-link (k of VL v at v * 4 + k) and the figures by hop.
-#[derive(Drop)]
+#[derive(Clone, Copy)]
 pub struct Figures {
     pub waits: [u64; MOST_VLS],
     pub queues: [u64; QUEUES],

@@ -5,9 +5,11 @@ use mathlib.Core.Path.{◌≡◌, refl, sym, ap, ◌∙◌}
 use mathlib.Core.Bool.{true, false, false≢true}
 use mathlib.Core.List.{List, ◌∷◌}
 use Rattle.std.specs.Prelude.{Option, None, Some, option_map, is_some}
+use native.Mathlib.Omega.{arith}
 use native.Mathlib.Numerals.{add-one}
-use borrow.Author.Tests.{eq-eqb, ne_eqb}
-use lib.ListN.{length, get_or}
+use borrow.Author.Tests.{le-ltb, eq-eqb, ne_eqb}
+use lib.Dec.{ltb}
+use lib.ListN.{length, get_or, get_or-eq_default}
 use Rattle.words.specs.Words.{words_of}
 use Rattle.words.specs.Places.{part, line_end}
 use Rattle.notation.specs.Notation.{Word}
@@ -23,6 +25,10 @@ use Rattle.parser.specs.Lines.{line_told, Tells}
 use Rattle.parser.specs.Mistakes.{Found, line_fault, counted, counted_by, line_start, mistake_at, mistake_from}
 
 -- ---- counts
+pub room_past : (counts most : List ℕ) (s : ℕ) → length counts ≡ 7 → length most ≡ 7 → 7 ≤ s → ltb (get_or counts s 0) (get_or most s 0) ≡ false
+room_past counts most s c m h =
+    rw (get_or-eq_default counts 0 {n = s} (omega arith), get_or-eq_default most 0 {n = s} (omega arith)) (le-ltb 0 0 (omega arith))
+
 pub counted_told : (text : List ℕ) (end : ℕ) (most counts : List ℕ) (r : Line) → counted_by most counts r ≡ counted most counts (line_told text end r)
 unfolding counted counted_by line_told
 counted_told text end most counts Silent = refl

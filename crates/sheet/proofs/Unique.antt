@@ -1,6 +1,10 @@
--- The contract of each method of a sheet settles its answer: two runs that both satisfy it are the same.
+-- The contract of each method of a sheet settles its answer: two runs that both satisfy it are the same. Of an accepted network it
+-- settles the sheet that it shows.
 -- Assumes nothing.
-use mathlib.Core.Path.{refl, sym, ◌∙◌}
+use mathlib.Core.Path.{◌≡◌, refl, sym, ◌∙◌}
+use contract.Lifetimes.{Lfts}
+use borrow.Fn.Kinds.{ended_of, res_t, Dens}
+use denote.Triple.Clauses.{Lasts, at_exit}
 use Rattle.base.specs.Settles.{Settles}
 use Rattle.sheet.proofs.Sheet.blank.Kinds as blank-kinds
 use Rattle.sheet.proofs.Sheet.blank.Reads as blank-reads
@@ -34,6 +38,8 @@ use Rattle.sheet.proofs.Sheet.hop_row.Kinds as hop-row-kinds
 use Rattle.sheet.proofs.Sheet.hop_row.Reads as hop-row-reads
 use Rattle.sheet.proofs.Sheet.leaves.Kinds as leaves-kinds
 use Rattle.sheet.proofs.Sheet.leaves.Reads as leaves-reads
+use Rattle.sheet.proofs.accepted.Accepted.new.Kinds as accepted-kinds
+use Rattle.sheet.proofs.accepted.Accepted.new.Reads as accepted-reads
 
 pub blank_settles : Settles 0 blank-kinds.ps blank-kinds.r blank-reads.Post
 blank_settles κs a x y ws vs p q = (p ∙ sym q, refl)
@@ -82,3 +88,10 @@ hop_row_settles κs a x y ws vs p q = (p ∙ sym q, refl)
 
 pub leaves_settles : Settles 1 leaves-kinds.ps leaves-kinds.r leaves-reads.Post
 leaves_settles κs a x y ws vs p q = (p ∙ sym q, refl)
+
+-- ---- a sheet that is lent: what it holds, since where it stands no contract says
+pub accepted_sheet : (κs : Lfts 1) (a : Dens κs accepted-kinds.ps) (x y : (res_t accepted-kinds.r κs).Denot) (ws vs : Lasts (ended_of 1 accepted-kinds.ps accepted-kinds.r) κs a)
+    → accepted-reads.Post κs a x (at_exit (ended_of 1 accepted-kinds.ps accepted-kinds.r) κs a ws)
+    → accepted-reads.Post κs a y (at_exit (ended_of 1 accepted-kinds.ps accepted-kinds.r) κs a vs)
+    → x.sheet.now ≡ y.sheet.now
+accepted_sheet κs a x y ws vs p q = p ∙ sym q

@@ -20,7 +20,7 @@ use network::{EndSystem, Hop, Port, Stream, Vl};
 use table::Counts;
 
 // The lists of a table, each with room for the most records, and how many records there are.
-#[derive(Drop)]
+#[derive(Clone, Copy)]
 pub struct Sheet {
     pub header: [u64; HEADER_LIST],
     pub counts: Counts,

@@ -13,3 +13,4 @@ pub mod DecodedLaws
 pub mod ReadingLaws
 pub mod HeldLaws
 pub mod ReadLaws
+pub mod Unique

@@ -1,13 +1,13 @@
 -- A line grows by one number at its end, and has at most 21 bytes a number: twenty digits, and a space or the line's end.
 -- So the line of a refusal has at most 71.
 -- Assumes nothing.
-use Prim.Native.Nat.{ℕ, ◌+◌, ◌*◌, ◌≤◌, ◌<◌}
+use Prim.Native.Nat.{ℕ, suc, ◌+◌, ◌-◌, ◌*◌, ◌≤◌, ◌<◌}
 use mathlib.Core.Path.{◌≡◌, refl, sym}
 use mathlib.Core.List.{List, [], ◌∷◌, ◌++◌, append_assoc, append-nil}
 use native.Mathlib.Omega.{arith}
 use native.Mathlib.Numerals.{add-one}
-use lib.ListN.{length, take, get_or, length-append}
-use lib.Seq.{take-suc}
+use lib.ListN.{length, take, drop, get_or, length-append}
+use lib.Seq.{take-suc, take_all}
 use Rattle.text.specs.Text.{decimal, spaced_from, spaced, line, LineFits}
 use Rattle.text.specs.Refusal.{refused, refusal, RefusalFits}
 use Rattle.text.proofs.DecimalLaws.{length_decimal}
@@ -25,6 +25,11 @@ pub spaced_none : (ns : List ℕ) → length ns ≡ 0 → spaced ns ≡ []
 unfolding spaced
 spaced_none [] h = refl
 spaced_none (n ∷ ns) h = absurd (omega arith)
+
+pub spaced_some : (ns : List ℕ) → 0 < length ns → spaced ns ≡ decimal (get_or ns 0 0) ++ spaced_from (take (length ns - 1) (drop 1 ns))
+unfolding spaced
+spaced_some [] h = absurd (omega arith)
+spaced_some (n ∷ ns) h = rw (take_all (suc (length ns) - 1) ns (omega arith))
 
 length_spaced_from : (ns : List ℕ) → length (spaced_from ns) ≤ 21 * length ns
 unfolding spaced_from

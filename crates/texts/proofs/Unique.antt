@@ -1,6 +1,6 @@
--- The public contract settles its answer and what the bytes hold: two results that both satisfy it are equal.
+-- Each public contract settles its answer, and that of the packing what the bytes hold: two results that both satisfy it are equal.
 -- Assumes nothing.
-use mathlib.Core.Path.{◌≡◌, sym, ap, ◌∙◌}
+use mathlib.Core.Path.{◌≡◌, refl, sym, ap, ◌∙◌}
 use mathlib.Core.List.{List}
 use Prim.Native.Nat.{ℕ}
 use Rattle.std.specs.Prelude.{Result, Ok, Err}
@@ -16,6 +16,10 @@ use Rattle.texts.specs.declared.PackError.TheVariants.{Mistaken, Refused}
 use Rattle.texts.specs.Packing.{PacksTo}
 use Rattle.texts.proofs.pack.Kinds as pack-kinds
 use Rattle.texts.proofs.pack.Reads as pack-reads
+use Rattle.texts.proofs.PackErrorFromMistake.from.Kinds as mistake-kinds
+use Rattle.texts.proofs.PackErrorFromMistake.from.Reads as mistake-reads
+use Rattle.texts.proofs.PackErrorFromRefusal.from.Kinds as refusal-kinds
+use Rattle.texts.proofs.PackErrorFromRefusal.from.Reads as refusal-reads
 
 -- what is written for one list settles both answers
 written_same : (ls : Lists) (room : ℕ) (x y : Result ℕ Refusal) (a c : List ℕ) → Writes ls room (written_by x) a → Writes ls room (written_by y) c
@@ -47,3 +51,10 @@ packs_settles text before (Ok n) (Ok k) a c p q = let e = written_same _ _ (Ok n
 pub pack_settles : Settles 2 pack-kinds.ps pack-kinds.r pack-reads.Post
 pack_settles κs a x y ws vs p q =
     let e = packs_settles _ _ x y _ _ p q in (e.0, λ i. (tt, (e.1 i, tt)))
+
+-- ---- the two errors that a packing hands on
+pub from_mistake_settles : Settles 0 mistake-kinds.ps mistake-kinds.r mistake-reads.Post
+from_mistake_settles κs a x y ws vs p q = (p ∙ sym q, refl)
+
+pub from_refusal_settles : Settles 0 refusal-kinds.ps refusal-kinds.r refusal-reads.Post
+from_refusal_settles κs a x y ws vs p q = (p ∙ sym q, refl)
