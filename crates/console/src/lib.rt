@@ -1,11 +1,13 @@
-// How a program reads, writes and gives up: a read that fails is told from the end of the input, and every write says whether it went out whole.
+// How a program reads, writes and gives up: a read that fails is told from the end of the input, and every write says whether it went out whole,
+// but for what goes through `Heedless`.
 // Every public routine answers for all input. What standard input gives and what is written no contract can say: C's read and write are assumed, and
 // only their answers. Of a reader whose bytes are known, `read` says which of them it took.
 #![tactic(auto)]
 
-ghost use Rattle.std.specs.Prelude.{◌<◌, length, IsErr};
+ghost use Rattle.std.specs.Prelude.{◌<◌, length, IsErr, IsOk};
 ghost use Rattle.console.specs.Told.{Counted, Taken};
 
+use std::fmt::{self, Display, Formatter};
 use std::io::{Read, Stdin};
 
 const STDOUT_FILENO: i32 = 1;
@@ -54,6 +56,43 @@ pub fn write(text: &[u8]) -> Result<(), NotWritten> {
         Ok(())
     } else {
         Err(NotWritten)
+    }
+}
+
+// Prints on standard output for a program that goes on where a write fails: every piece of a text is tried, and every answer is Ok.
+// Std's own printing answers with C's error number, and so reaches more of C than its write.
+#[derive(Clone, Copy)]
+pub struct Heedless;
+
+impl fmt::Write for Heedless {
+    fn write_str(&mut self, piece: &str) -> fmt::Result
+        ensures { IsOk result }
+    {
+        let _ = write(piece.as_bytes());
+        Ok(())
+    }
+}
+
+impl Print for Heedless {
+    fn print<D: Display + Drop>(&self, value: D) -> std::io::Result<()>
+        ensures { IsOk result }
+    {
+        let _ = Formatter::new(Heedless).write(&value);
+        Ok(())
+    }
+
+    fn println<D: Display + Drop>(&self, value: D) -> std::io::Result<()>
+        ensures { IsOk result }
+    {
+        let _ = self.print(value);
+        self.write_all(b"\n")
+    }
+
+    fn write_all(&self, bytes: &[u8]) -> std::io::Result<()>
+        ensures { IsOk result }
+    {
+        let _ = write(bytes);
+        Ok(())
     }
 }
 

@@ -4,6 +4,7 @@
 
 mod wording;
 
+use console::Heedless;
 use layout::sizes::{KINDS, MOST_ROWS};
 use layout::{Kind, Name, Shape, Way};
 use std::io;
@@ -149,9 +150,9 @@ fn limits(rt: &impl Print) -> io::Result<()> {
     println!(rt; ". A result has at most {MOST_ROWS} rows.")
 }
 
-fn main(rt: HostRuntime) -> io::Result<()> {
+fn main() {
     for s in 0..KINDS {
-        section(&rt, s)?;
+        let _ = section(&Heedless, s);
     }
-    limits(&rt)
+    let _ = limits(&Heedless);
 }
