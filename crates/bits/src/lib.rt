@@ -87,14 +87,20 @@ fn has_room(n: usize, at: usize, w: usize) -> bool
     w <= 32 && n <= 4_294_967_296 && at <= 8 * n && at + w <= 8 * n
 }
 
-// The bytes from one to before another as one number: five at most, which is what a field of 32 bits touches.
+// What a field of 32 bits touches.
+const MOST_BYTES: usize = 5;
+
+// The bytes from one to before another as one number. The loop has a number of turns that the compiler knows, so that it becomes a few lines.
 fn gather(s: &[u8], from: usize, to: usize) -> u64
     requires { (from ≤ to) × (to ≤ length s.now) × (to ≤ from + 5) }
     ensures { result ≡ field_at s.now (8 * from) (8 * (to - from)) }
 {
     let mut v: u64 = 0;
-    for &byte in &s[from..to] {
-        v = v * 256 + byte as u64;
+    for i in 0..MOST_BYTES {
+        if to <= from + i {
+            return v;
+        }
+        v = v * 256 + s[from + i] as u64;
     }
     v
 }

@@ -4,10 +4,12 @@ use mathlib.Core.Path.{◌≡◌, refl, sym, ap, ◌∙◌}
 use mathlib.Core.List.{List, [], ◌∷◌, ◌++◌}
 use Prim.Native.Nat.{ℕ, zero, suc, ◌+◌, ◌-◌, ◌≤◌, ◌<◌}
 use native.Mathlib.Nat.{not-suc-le-zero, le_of_suc-le-suc}
+use native.Mathlib.Decide.{dec_le}
 use native.Mathlib.Numerals.{add-one}
 use native.Mathlib.Omega.{arith}
 use lib.ListN.{length, get_or, take, set, replicate, length-append, length-replicate, replicate-append-replicate}
 use lib.Seq.{ext_get_or, set_at, append_snoc, take-suc, length-take-le, take-append_seam}
+use Rattle.std.proofs.lemmas.List.{take_all, set-get_or}
 use Rattle.layout.specs.declared.Shape.{Shape}
 use Rattle.layout.specs.declared.Way.{Way}
 use Rattle.layout.specs.Layout.{blank}
@@ -89,3 +91,15 @@ wide_more row k h l =
     rw (add-one k, take-suc row k 0 l, n, n', left)
     (set_at (take k row) 0 (replicate (11 - suc k) 0) (get_or row k 0) k n
     ∙ sym (append_snoc (take k row) (get_or row k 0) (replicate (11 - suc k) 0)))
+
+-- the same of any place: past the row's end a zero is put where a zero stands
+past_end : (row : List ℕ) (k : ℕ) → length row ≤ k → set (wide (take k row)) k (get_or row k 0) ≡ wide (take (k + 1) row)
+past_end row k h =
+    rw (take_all k row h, take_all (k + 1) row (omega arith))
+    (ap (set (wide row) k) (sym (wide_at row k)) ∙ set-get_or (wide row) k 0)
+
+pub wide_next : (row : List ℕ) (k : ℕ) → length row ≤ 11 → set (wide (take k row)) k (get_or row k 0) ≡ wide (take (k + 1) row)
+wide_next row k h = elim (dec_le (length row) k) [
+      | yes past ↦ past_end row k past
+      | no inside ↦ wide_more row k h (omega arith)
+    ]

@@ -31,6 +31,7 @@ use Rattle.layout.proofs.TheLinks.layout-rows-put_row as put_row_link
 use Rattle.layout.proofs.TheLinks.layout-rows-read_row as read_row_link
 use Rattle.layout.proofs.TheLinks.layout-shapes-shape as shape_link
 use Rattle.layout.proofs.TheLinks.layout-shapes-shape_at as shape_at_link
+use Rattle.layout.proofs.TheLinks.layout-shapes-width_at as width_at_link
 use Rattle.layout.proofs.TheLink as the_link
 
 -- each function's code under its symbol
@@ -82,6 +83,9 @@ module _ (W : World) (held : Holds W "layout" table) (b : bits.Wiring W) (f : fr
   shape_at : HasT (in_world W) true shape_at_link.code
   shape_at = shape_at_link.has (in_world W) true (the_link.found-layout::shapes::shape_at W held) shape
 
+  width_at : HasT (in_world W) true width_at_link.code
+  width_at = width_at_link.has (in_world W) true (the_link.found-layout::shapes::width_at W held) shape_at
+
   converted_number : HasT (in_world W) true converted_number_link.code
   converted_number = converted_number_link.has (in_world W) true (the_link.found-layout::rows::converted_number W held) convert_field shape_at
 
@@ -95,7 +99,7 @@ module _ (W : World) (held : Holds W "layout" table) (b : bits.Wiring W) (f : fr
   has_row = has_row_link.has (in_world W) true (the_link.found-layout::rows::has_row W held) bytes_in
 
   put_row : HasT (in_world W) true put_row_link.code
-  put_row = put_row_link.has (in_world W) true (the_link.found-layout::rows::put_row W held) b.cursor_new b.cursor_put fields_in has_row shape_at
+  put_row = put_row_link.has (in_world W) true (the_link.found-layout::rows::put_row W held) b.cursor_new b.cursor_put fields_in has_row width_at
 
   read_row : HasT (in_world W) true read_row_link.code
   read_row = read_row_link.has (in_world W) true (the_link.found-layout::rows::read_row W held) b.cursor_new b.cursor_read fields_in has_row shape_at

@@ -59,6 +59,7 @@ fn between(low: u64, high: u64, n: u64) -> Option<u64>
 }
 
 #[tactic(auto, unfolding(crate::specs::Fields::convert))]
+#[inline(always)]
 pub fn convert_field(way: Way, shape: Shape, n: u64) -> Option<u64>
     requires { shape.width ≤ 32 }
     ensures { result ≡ convert way shape n }

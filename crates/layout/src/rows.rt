@@ -13,6 +13,7 @@ use bits::Cursor;
 
 // Reads the stored numbers of a record that begins at bit `at` to a lent row; zeros where the table has no such record.
 #[tactic(auto, using(crate::proofs::LayoutLaws::few_fields, crate::proofs::LayoutLaws::narrow))]
+#[inline(never)]
 pub fn read_row(table: &[u8], at: usize, kind: usize, row: &mut [u64; LONGEST])
     ensures { row.new ≡ wide (row_at table.now at kind) }
 {
@@ -35,7 +36,7 @@ pub fn put_row(table: &mut [u8], at: usize, kind: usize, row: [u64; LONGEST])
     if has_row(table.len(), at, kind) {
         let mut cursor = Cursor::new(at);
         for k in 0..kinds::fields_in(kind) {
-            cursor = cursor.put(table, shapes::shape_at(kind, k).width, row[k]);
+            cursor = cursor.put(table, shapes::width_at(kind, k), row[k]);
         }
     }
 }
@@ -64,6 +65,7 @@ pub fn converted_row(way: Way, kind: usize, row: &[u64; LONGEST]) -> [u64; LONGE
 // The number of field k converted, 0 where it is out of range.
 // It calls no method of std: a program is wired from the functions of this repository alone (order/proofs/There).
 #[tactic(auto, using(crate::proofs::LayoutLaws::narrow), unfolding(base::specs::Tests::number_or0))]
+#[inline(always)]
 pub fn converted_number(way: Way, kind: usize, k: usize, n: u64) -> u64
     ensures { result ≡ number_or0 (convert way (get_or (layout kind) k blank) n) }
 {
@@ -75,6 +77,7 @@ pub fn converted_number(way: Way, kind: usize, k: usize, n: u64) -> u64
 
 // The first test of a row that fails: a field's own range by the field's place, then the pairs of fields that are not in order.
 #[tactic(auto, using(crate::proofs::LayoutLaws::few_fields, crate::proofs::LayoutLaws::narrow))]
+#[inline(never)]
 pub fn fault_of(way: Way, kind: usize, row: &[u64; LONGEST]) -> Option<u64>
     ensures { result ≡ row_fault way kind row.now }
 {

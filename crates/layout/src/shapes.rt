@@ -13,8 +13,17 @@ fn shape(name: Name, width: usize, kind: Kind) -> Shape
     Shape { name, width, kind }
 }
 
+// The width of field k of a record of this kind, 0 where it has none. By itself it is compiled to a look-up in a table.
+#[inline(never)]
+pub(crate) fn width_at(kind: usize, k: usize) -> usize
+    ensures { result ≡ (get_or (layout kind) k blank).width }
+{
+    shape_at(kind, k).width
+}
+
 // The shape of field k of a record of this kind, blank where it has none.
 #[tactic(auto, unfolding(crate::specs::Layout::layout_in))]
+#[inline(always)]
 pub fn shape_at(kind: usize, k: usize) -> Shape
     ensures { result ≡ get_or (layout kind) k blank }
 {

@@ -14,6 +14,10 @@ pub(crate) fn put_numbers(list: &mut [u64], at: usize, numbers: &[u64]) -> usize
     ensures behind { result ≡ place_with list.old at numbers.now }
     ensures put { list.new ≡ list_with list.old at numbers.now }
 {
+    // most lines are of other sections
+    if numbers.is_empty() {
+        return at;
+    }
     if list.len() - at < numbers.len() {
         return at;
     }

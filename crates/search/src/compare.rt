@@ -1,6 +1,6 @@
-// Differences that stop at 0, and the lesser and the greater of two numbers, as the definitions have them.
+// Differences that stop at 0, and the lesser of two numbers, as the definitions have them.
 // They are written out, since a call of std's would leave code outside the program of order/specs/There, which has the code of these crates alone.
-ghost use Rattle.std.specs.Prelude.{◌≡◌, ◌-◌, max, min};
+ghost use Rattle.std.specs.Prelude.{◌≡◌, ◌-◌, min};
 
 pub fn less(a: u64, b: u64) -> u64
     ensures { result ≡ a - b }
@@ -12,10 +12,4 @@ pub fn lesser(a: u64, b: u64) -> u64
     ensures { result ≡ min a b }
 {
     if a < b { a } else { b }
-}
-
-pub fn greater(a: u64, b: u64) -> u64
-    ensures { result ≡ max a b }
-{
-    if a < b { b } else { a }
 }

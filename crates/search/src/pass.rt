@@ -1,11 +1,12 @@
 // One pass over the flows, for a span of d ticks: one flow more, and whether each is in range.
 // The ranges bound what a flow brings, so that no sum wraps.
-ghost use Rattle.std.specs.Prelude.{◌≡◌, true, ◌&&◌, ◌<◌, eqb};
+ghost use Rattle.std.specs.Prelude.{◌≡◌, true, ◌&&◌, ◌<◌, ◌-◌, ◌^◌, max, eqb};
 ghost use Rattle.base.specs.Pick.{pick};
 ghost use Rattle.search.specs.Flows.{in_range};
+ghost use Rattle.search.specs.Spans.{limit};
 ghost use Rattle.search.specs.Pass.{evenly, taken, empty_tally, with_flow, add_to};
 
-use crate::compare::{greater, less};
+use crate::compare::lesser;
 use crate::turns::{CYCLE, LIMIT};
 
 // Work of 2^63 or more is not added to; 1,024 flows in range bring far less within the limit.
@@ -71,10 +72,11 @@ impl Tally {
         requires { taken self flow d ≡ true }
         ensures { result ≡ with_flow self flow d }
     {
-        let q = (d + flow.jitter) / flow.period;
+        let reach = d + flow.jitter;
+        let q = reach / flow.period;
         Tally {
             work: self.work + (q + 1) * flow.cost,
-            last: greater(self.last, less(q * flow.period, flow.jitter)),
+            last: later(self.last, reach % flow.period, d),
             even: self.still_even(flow.period, d),
         }
     }
@@ -90,5 +92,20 @@ impl Tally {
         } else {
             self.even
         }
+    }
+}
+
+// The later of the last arrival so far and the one that comes this rest before tick d, at tick 0 where the rest is longer.
+// One test serves for both: whether a difference stops at 0 goes now one way and now the other, from flow to flow.
+#[tactic(auto, unfolding(crate::specs::Spans::limit))]
+fn later(last: u64, rest: u64, d: u64) -> u64
+    requires short { rest < 2 ^ 62 }
+    requires low { d < limit }
+    ensures { result ≡ max last (d - rest) }
+{
+    if lesser(last, LIMIT) + rest < d {
+        d - rest
+    } else {
+        last
     }
 }

@@ -78,18 +78,22 @@ pub fn pack(text: &[u8], out: &mut [u8]) -> Result<usize, PackError>
     let mut streams = [0u64; sizes::STREAMS];
     let mut ports = [0u64; sizes::PORTS];
     let mut hops = [0u64; sizes::HOPS];
-    writer::clear(out);
-    let lengths = parser::read(
-        text,
-        ListsMut {
-            header: &mut header,
-            systems: &mut systems,
-            vls: &mut vls,
-            streams: &mut streams,
-            ports: &mut ports,
-            hops: &mut hops,
-        },
-    )?;
+    let lent = ListsMut {
+        header: &mut header,
+        systems: &mut systems,
+        vls: &mut vls,
+        streams: &mut streams,
+        ports: &mut ports,
+        hops: &mut hops,
+    };
+    // The writer clears what it is lent: so on a mistake alone, which it does not see.
+    let lengths = match parser::read(text, lent) {
+        Ok(lengths) => lengths,
+        Err(mistake) => {
+            writer::clear(out);
+            return Err(mistake.into());
+        }
+    };
     let lists = Lists {
         header: &header,
         systems: &systems,

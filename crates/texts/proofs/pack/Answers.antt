@@ -1,11 +1,9 @@
 -- `texts::pack` meets its contract: what is read without a mistake are the lists that the text says, each as far as its length goes.
 -- Assumes nothing.
 use Prim.Native.Nat.{ℕ}
-use mathlib.Core.List.{List}
-use mathlib.Core.Path.{◌≡◌, sym, ap, subst, ◌∙◌}
+use mathlib.Core.Path.{sym, subst}
 use native.Mathlib.Omega.{arith}
-use lib.ListN.{length, replicate, length-replicate}
-use Rattle.std.specs.Prelude.{Result}
+use Rattle.std.specs.Prelude.{Result, Err}
 use Rattle.layout.specs.Limits.{most_in}
 use Rattle.layout.specs.Layout.{layout_in, kinds_of, kind_of}
 use Rattle.layout.specs.Fields.{is_padding}
@@ -20,7 +18,7 @@ use Rattle.texts.proofs.pack.Goals as goal
 pub write_first-requires : goal.write_first-requires
 unfolding list_for capacity most_in listed listed_in is_padding kind_of kinds_of layout_in
 write_first-requires c =
-    let within = list_within _ zero_lists _ _ c.read.ensures _ c.in_ok-lengths.was in (
+    let within = list_within _ zero_lists _ _ c.read.ensures _ c.in-Ok.is in (
       within 0 (omega arith),
       within 1 (omega arith),
       within 2 (omega arith),
@@ -29,34 +27,27 @@ write_first-requires c =
       within 5 (omega arith),
     )
 
--- the writer is lent as many bytes as were cleared
-same_room : (before after : List ℕ) → after ≡ replicate (length before) 0 → length after ≡ length before
-same_room before after e = ap length e ∙ length-replicate (length before) 0
-
-pub returns-in_err-lengths : goal.returns-in_err-lengths
+pub returns-in-Err : goal.returns-in-Err
 unfolding PacksTo capacity most_in listed listed_in is_padding kind_of kinds_of layout_in
-returns-in_err-lengths c =
+returns-in-Err c =
     let a = c.args in
-    subst (λ (r : Result ℕ PackError). PacksTo a.text.now a.out.now r c.clear.new.out) (sym (err_is _ _ c.from_residual.ensures.1))
-    (a_mistake _ zero_lists _ _ c.read.ensures _ c.in_err-lengths.was, c.clear.ensures)
+    subst (λ (e : PackError). PacksTo a.text.now a.out.now (Err e) c.clear.new.out) (sym c.into.ensures)
+    (a_mistake _ zero_lists _ _ c.read.ensures _ c.in-Err.is, c.clear.ensures)
 
 pub returns-in_err-write_first : goal.returns-in_err-write_first
 unfolding PacksTo list_for capacity most_in listed listed_in is_padding kind_of kinds_of layout_in
 returns-in_err-write_first c =
     let a = c.args in
     let read = c.read.ensures in
-    let told = c.in_ok-lengths.was in
-    let room = same_room a.out.now c.clear.new.out c.clear.ensures in
-    let written = rw (room, c.in_err-write_first.was) at c.write_first.ensures in
-    subst (λ (r : Result ℕ PackError). PacksTo a.text.now a.out.now r c.write_first.new.out) (sym (err_is _ _ c.from_residual-in_err-write_first.ensures.1))
+    let told = c.in-Ok.is in
+    let written = rw (c.in_err-write_first.was) at c.write_first.ensures in
+    subst (λ (r : Result ℕ PackError). PacksTo a.text.now a.out.now r c.write_first.new.out) (sym (err_is _ _ c.from_residual.ensures.1))
     (no_mistake _ zero_lists _ _ read _ told, said_written _ zero_lists _ _ read _ told _ _ _ written)
 
 pub returns : goal.returns
 unfolding PacksTo list_for capacity most_in listed listed_in is_padding kind_of kinds_of layout_in
 returns c =
-    let a = c.args in
     let read = c.read.ensures in
-    let told = c.in_ok-lengths.was in
-    let room = same_room a.out.now c.clear.new.out c.clear.ensures in
-    let written = rw (room, c.in_ok-write_first.was) at c.write_first.ensures in
+    let told = c.in-Ok.is in
+    let written = rw (c.in_ok-write_first.was) at c.write_first.ensures in
     (no_mistake _ zero_lists _ _ read _ told, said_written _ zero_lists _ _ read _ told _ _ _ written)

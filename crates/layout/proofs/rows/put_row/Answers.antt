@@ -1,12 +1,12 @@
 -- `layout::rows::put_row` meets its contract: a turn writes the next field, and the row has a number for each.
 -- Assumes nothing.
-use mathlib.Core.Path.{◌≡◌, sym, ◌∙◌}
+use mathlib.Core.Path.{◌≡◌, refl, sym, ◌∙◌}
 use native.Mathlib.Omega.{arith}
-use lib.ListN.{length}
+use lib.ListN.{length, get_or}
 use mir.Syntax.{w64}
 use borrow.Kind.Array.{e_int, good_length}
 use Rattle.bits.proofs.PartLaws.{total_start, put_start}
-use Rattle.layout.specs.Layout.{widths}
+use Rattle.layout.specs.Layout.{layout, blank, widths}
 use Rattle.layout.proofs.LayoutLaws.{few_fields}
 use Rattle.layout.proofs.RoomLaws.{put_none}
 use Rattle.layout.proofs.TurnLaws.{write_more, written_all}
@@ -24,10 +24,10 @@ loop-k-preserved c =
     let a = c.args in
     let l = c.loop-k in
     let room = sym c.has_row.ensures ∙ c.if-has_row.true in
-    write_more a.table.now a.at a.kind l.k room (omega arith) _ c.shape_at.ensures _ l.invariant.0 l.table _ a.row _
+    write_more a.table.now a.at a.kind l.k room (omega arith) (get_or (layout a.kind) l.k blank) refl _ l.invariant.0 l.table _ a.row _
     (omega (arith, eleven, few_fields a.kind))
     l.invariant.1
-    c.put-cursor.ensures
+    (rw (c.width_at.ensures) at c.put-cursor.ensures)
 
 pub returns-after-loop-k : goal.returns-after-loop-k
 returns-after-loop-k c =
