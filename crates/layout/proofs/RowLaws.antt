@@ -100,6 +100,6 @@ past_end row k h =
 
 pub wide_next : (row : List ℕ) (k : ℕ) → length row ≤ 11 → set (wide (take k row)) k (get_or row k 0) ≡ wide (take (k + 1) row)
 wide_next row k h = elim (dec_le (length row) k) [
-      | yes past ↦ past_end row k past
-      | no inside ↦ wide_more row k h (omega arith)
-    ]
+  | yes past ↦ past_end row k past
+  | no inside ↦ wide_more row k h (omega arith)
+]
